@@ -1,0 +1,13 @@
+pub mod Basics
+pub mod Syntax
+pub mod Items
+pub mod Reading
+pub mod Grouping
+pub mod Errors
+pub mod Checking
+pub mod Graph
+pub mod Calls
+pub mod Order
+pub mod Run
+pub mod Answers
+pub mod Specimens
