@@ -1,0 +1,22 @@
+use borrow.Author.Needs.{needs}
+use mathlib.Core.Path.{refl}
+use Rattle.output.specs.Bytes.{wrote-6}
+use Rattle.rules.specs.Errors.{errorField}
+use Rattle.output.specs.Sinks.{said-as}
+use Rattle.output.proofs.invalid_comparison_size.Statement.{statement}
+use Rattle.output.proofs.invalid_comparison_size.Tie as tie
+
+pub invalid-comparison-size-spec : {M : Type 1} → statement M
+unfolding errorField
+invalid-comparison-size-spec =
+    tie.close
+    (tie.spec
+    (λ c κs. search needs)
+    (λ c κs. search needs)
+    (λ c κs. search needs)
+    (λ c κs. search needs)
+    (λ c κs. search needs)
+    (λ c κs. search needs)
+    (λ c κs. search needs)
+    (λ c. search needs)
+    (λ c. said-as _ (wrote-6 (c .before .before .before .before .before .before .before .before .before .before .before .before .before .before .before .before .before .before .before .before .before .before .before .put-head .ensures) (c .before .before .before .before .before .before .before .before .before .before .before .before .before .before .before .before .before .before .before .put4 .ensures) (c .before .before .before .before .before .before .before .before .before .before .before .before .before .before .before .put42 .ensures) (c .before .before .before .before .before .before .before .before .before .before .before .put43 .ensures) (c .before .before .before .before .before .before .before .put8 .ensures) (c .before .before .before .put82 .ensures) refl) (c .one-more .ensures)))
