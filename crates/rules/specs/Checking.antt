@@ -6,6 +6,10 @@ use mathlib.Core.Option.{Option, none, some}
 use lib.ListN.{length, getD}
 use lib.Dec.{ltb, leb, eqb}
 use Rattle.rules.specs.declared.Operand.{Operand}
+use Rattle.rules.specs.declared.Header.{Header}
+use Rattle.rules.specs.declared.FoundGate.{FoundGate}
+use Rattle.rules.specs.declared.FoundGate.the-variants.{Known, Unknown}
+use Rattle.rules.specs.declared.Match.{Match}
 use Rattle.rules.specs.declared.Reg.{Reg}
 use Rattle.rules.specs.declared.Found.{Found}
 use Rattle.rules.specs.declared.Found.the-variants.{Row, Nothing}
@@ -28,12 +32,23 @@ numberOf gs x = first (length gs) (λ i. eqb (gateAt gs i .name) x)
 unfoldable pub isGate : List Gate → ℕ → Bool
 isGate gs x = ltb (numberOf gs x) (length gs)
 
+abbrev pub headerOf : List Gate → ℕ → Header
+headerOf gs i = record { number = i; params = length (gateAt gs i .params); args = length (gateAt gs i .args); decl = gateAt gs i .decl }
+
+-- what is known of a gate by its name
+unfoldable pub header : List Gate → ℕ → FoundGate
+header gs x = pick (isGate gs x) (Known (headerOf gs (numberOf gs x))) Unknown
+
+-- g is entered unless its name is
+unfoldable pub entered : List Gate → Gate → List Gate
+entered gs g = pick (isGate gs (g .name)) gs (gs ++ (g ∷ []))
+
 -- the first entries, those in gs before the others
 unfoldable pub entries : List Gate → List Decl → List Gate
 entries gs [] = gs
 entries gs (include sp x ∷ ds) = entries gs ds
 entries gs (reg c d o ∷ ds) = entries gs ds
-entries gs (gate g ∷ ds) = entries (pick (isGate gs (g .name)) gs (gs ++ (g ∷ []))) ds
+entries gs (gate g ∷ ds) = entries (entered gs g) ds
 entries gs (top s ∷ ds) = entries gs ds
 
 unfoldable pub gatesOf : Program → List Gate
@@ -69,20 +84,22 @@ registers (reg c d o ∷ ds) = register c o ∷ registers ds
 registers (gate g ∷ ds) = registers ds
 registers (top s ∷ ds) = registers ds
 
--- what names mean where a statement stands
-pub record Scope : Type 0 where
-  pub regs : List Reg
-  pub params : List Named
-
-unfoldable pub topScope : List Decl → Scope
-topScope ds = record { regs = registers ds; params = [] }
-
-unfoldable pub bodyScope : Gate → Scope
-bodyScope g = record { regs = map argument (g .args); params = g .params }
-
 unfoldable pub isParam : List Named → ℕ → Bool
 isParam [] x = false
 isParam (p ∷ ps) x = eqb (p .name) x || isParam ps x
+
+-- what names mean where a statement stands
+pub record Scope : Type 0 where
+  pub gates : ℕ → FoundGate
+  pub regs : ℕ → Found
+  pub params : ℕ → Bool
+
+-- 01: "There are none at top level."
+unfoldable pub topScope : List Gate → List Decl → Scope
+topScope gs ds = record { gates = header gs; regs = latest (registers ds); params = λ x. false }
+
+unfoldable pub bodyScope : List Gate → Gate → Scope
+bodyScope gs g = record { gates = header gs; regs = latest (map argument (g .args)); params = isParam (g .params) }
 
 -- ---- gate headers: collect_decls
 
@@ -96,17 +113,15 @@ repeats kind decl seen [] = []
 repeats kind decl seen (a ∷ l) = repeated kind decl (latest seen (a .name)) a ++ repeats kind decl (seen ++ (argument a ∷ [])) l
 
 -- 01: "A gate name seen before: kind 1 with the first entry's span; its repeated names aren't reported"
-unfoldable pub headerErrors : (before : List Gate) → Gate → List Error
-headerErrors gs g =
-    pick (isGate gs (g .name))
-    (redefinedGate (g .span) (g .name) (g .decl) (gateAt gs (numberOf gs (g .name)) .decl) ∷ [])
-    (repeats redefinedArgument (g .decl) [] (g .args) ++ repeats redefinedParameter (g .decl) [] (g .params))
+abbrev pub headerErrors : FoundGate → Gate → List Error
+headerErrors (Known h) g = redefinedGate (g .span) (g .name) (g .decl) (h .decl) ∷ []
+headerErrors Unknown g = repeats redefinedArgument (g .decl) [] (g .args) ++ repeats redefinedParameter (g .decl) [] (g .params)
 
 unfoldable pub declErrors : (before : List Gate) → List Decl → List Error
 declErrors gs [] = []
 declErrors gs (include sp x ∷ ds) = declErrors gs ds
 declErrors gs (reg c d o ∷ ds) = declErrors gs ds
-declErrors gs (gate g ∷ ds) = headerErrors gs g ++ declErrors (pick (isGate gs (g .name)) gs (gs ++ (g ∷ []))) ds
+declErrors gs (gate g ∷ ds) = headerErrors (header gs (g .name)) g ++ declErrors (entered gs g) ds
 declErrors gs (top s ∷ ds) = declErrors gs ds
 
 -- ---- registers: collect_regs
@@ -159,24 +174,20 @@ foundSize (Row r) stmt q =
     pick (Bool·beq (r .classical) (q .classical)) (indexSize r stmt (q .operand))
     (bad (wrongRegisterType (q .operand .name) (r .span) stmt (q .operand .span) (q .classical)))
 
-unfoldable pub assertReg : List Reg → (stmt : ℕ) → Asked → Sized
-assertReg rs stmt q = foundSize (latest rs (q .operand .name)) stmt q
+unfoldable pub assertReg : (ℕ → Found) → (stmt : ℕ) → Asked → Sized
+assertReg find stmt q = foundSize (find (q .operand .name)) stmt q
 
 abbrev pub sizedErrors : Sized → List Error
 sizedErrors (size n) = []
 sizedErrors (bad e) = e ∷ []
 
-unfoldable pub operandErrors : List Reg → (stmt : ℕ) → List Asked → List Error
-operandErrors rs stmt [] = []
-operandErrors rs stmt (q ∷ qs) = sizedErrors (assertReg rs stmt q) ++ operandErrors rs stmt qs
+unfoldable pub operandErrors : (ℕ → Found) → (stmt : ℕ) → List Asked → List Error
+operandErrors find stmt [] = []
+operandErrors find stmt (q ∷ qs) = sizedErrors (assertReg find stmt q) ++ operandErrors find stmt qs
 
 -- ---- matching: assert_match
 
--- What is fixed: a size and its span; size 1 where nothing is yet.
-pub record Match : Type 0 where
-  pub size : ℕ
-  pub span : ℕ
-
+-- what is fixed is a size and its span; size 1 where nothing is yet
 abbrev pub unfixed : Match
 unfixed = record { size = 1; span = 0 }
 
@@ -191,25 +202,25 @@ differs m stmt (bad e) span = []
 differs m stmt (size n) span =
     pick (ltb 1 n && not (eqb n (m .size))) (wrongOperandSize stmt span n (m .span) (m .size) ∷ []) []
 
-unfoldable pub matchErrors : List Reg → (stmt : ℕ) → Match → List Asked → List Error
-matchErrors rs stmt m [] = []
-matchErrors rs stmt m (q ∷ qs) =
-    let now = fixed m (assertReg rs stmt q) (q .operand .span) in
-    differs now stmt (assertReg rs stmt q) (q .operand .span) ++ matchErrors rs stmt now qs
+unfoldable pub matchErrors : (ℕ → Found) → (stmt : ℕ) → Match → List Asked → List Error
+matchErrors find stmt m [] = []
+matchErrors find stmt m (q ∷ qs) =
+    let now = fixed m (assertReg find stmt q) (q .operand .span) in
+    differs now stmt (assertReg find stmt q) (q .operand .span) ++ matchErrors find stmt now qs
 
 -- ---- expressions: check_expr. 01: "Var: kind 7 unless a parameter. There are none at top level."
 
-unfoldable pub exprErrors : List Named → (stmt : ℕ) → Expr → List Error
-exprErrors ps stmt (pi sp) = []
-exprErrors ps stmt (real sp v) = []
-exprErrors ps stmt (int sp v) = []
-exprErrors ps stmt (var sp x) = pick (isParam ps x) [] (undefinedParameter x stmt sp ∷ [])
-exprErrors ps stmt (two o sp x y) = exprErrors ps stmt x ++ exprErrors ps stmt y
-exprErrors ps stmt (one o sp x) = exprErrors ps stmt x
+unfoldable pub exprErrors : (ℕ → Bool) → (stmt : ℕ) → Expr → List Error
+exprErrors param stmt (pi sp) = []
+exprErrors param stmt (real sp v) = []
+exprErrors param stmt (int sp v) = []
+exprErrors param stmt (var sp x) = pick (param x) [] (undefinedParameter x stmt sp ∷ [])
+exprErrors param stmt (two o sp x y) = exprErrors param stmt x ++ exprErrors param stmt y
+exprErrors param stmt (one o sp x) = exprErrors param stmt x
 
-unfoldable pub exprsErrors : List Named → (stmt : ℕ) → List Expr → List Error
-exprsErrors ps stmt [] = []
-exprsErrors ps stmt (e ∷ es) = exprErrors ps stmt e ++ exprsErrors ps stmt es
+unfoldable pub exprsErrors : (ℕ → Bool) → (stmt : ℕ) → List Expr → List Error
+exprsErrors param stmt [] = []
+exprsErrors param stmt (e ∷ es) = exprErrors param stmt e ++ exprsErrors param stmt es
 
 -- ---- comparisons: assert_scalar_size
 
@@ -228,57 +239,55 @@ compareErrors (size n) stmt o vs v = pick (leb (2 ^ n) v) (invalidComparisonSize
 abbrev pub lenErrors : (arity actual : ℕ) → (ℕ → ℕ → Error) → List Error
 lenErrors arity actual kind = pick (eqb arity actual) [] (kind arity actual ∷ [])
 
-unfoldable pub arityErrors : List Gate → (stmt nameSpan name params args : ℕ) → List Error
-arityErrors gs stmt nameSpan name params args =
-    let g = gateAt gs (numberOf gs name) in
-    pick (isGate gs name)
-    (lenErrors (length (g .params)) params (wrongParameterArity stmt (g .decl) name) ++ lenErrors (length (g .args)) args (wrongArgumentArity stmt (g .decl) name))
-    (undefinedGate nameSpan name stmt ∷ [])
+abbrev pub arityErrors : FoundGate → (stmt nameSpan name params args : ℕ) → List Error
+arityErrors Unknown stmt nameSpan name params args = undefinedGate nameSpan name stmt ∷ []
+arityErrors (Known h) stmt nameSpan name params args =
+    lenErrors (h .params) params (wrongParameterArity stmt (h .decl) name) ++ lenErrors (h .args) args (wrongArgumentArity stmt (h .decl) name)
 
 -- ---- statements: check_stmt. 01: "U, RESET, BARRIER and IF don't match."
 
-abbrev pub matched : List Reg → (stmt : ℕ) → List Asked → List Error
-matched rs stmt qs = operandErrors rs stmt qs ++ matchErrors rs stmt unfixed qs
+abbrev pub matched : (ℕ → Found) → (stmt : ℕ) → List Asked → List Error
+matched find stmt qs = operandErrors find stmt qs ++ matchErrors find stmt unfixed qs
 
 -- 01: "U: operand, then expressions. CALL: kind 11, or 10 then 9; then operands, matching, expressions."; "IF: operand, governed statement, then kind 8"
-unfoldable pub stmtErrors : List Gate → Scope → Stmt → List Error
-stmtErrors gs C (u sp o x y z) = operandErrors (C .regs) sp (quantum o ∷ []) ++ exprsErrors (C .params) sp (x ∷ y ∷ z ∷ [])
-stmtErrors gs C (cx sp x y) = matched (C .regs) sp (quantum x ∷ quantum y ∷ [])
-stmtErrors gs C (measure sp x y) = matched (C .regs) sp (quantum x ∷ classic y ∷ [])
-stmtErrors gs C (reset sp o) = operandErrors (C .regs) sp (quantum o ∷ [])
-stmtErrors gs C (barrier sp os) = operandErrors (C .regs) sp (map quantum os)
-stmtErrors gs C (call sp ns x es os) =
-    arityErrors gs sp ns x (length es) (length os) ++ (matched (C .regs) sp (map quantum os) ++ exprsErrors (C .params) sp es)
-stmtErrors gs C (if sp o vs v s) =
-    operandErrors (C .regs) sp (classic o ∷ []) ++ (stmtErrors gs C s ++ compareErrors (assertReg (C .regs) sp (classic o)) sp o vs v)
-stmtErrors gs C missing = []
+unfoldable pub stmtErrors : Scope → Stmt → List Error
+stmtErrors C (u sp o x y z) = operandErrors (C .regs) sp (quantum o ∷ []) ++ exprsErrors (C .params) sp (x ∷ y ∷ z ∷ [])
+stmtErrors C (cx sp x y) = matched (C .regs) sp (quantum x ∷ quantum y ∷ [])
+stmtErrors C (measure sp x y) = matched (C .regs) sp (quantum x ∷ classic y ∷ [])
+stmtErrors C (reset sp o) = operandErrors (C .regs) sp (quantum o ∷ [])
+stmtErrors C (barrier sp os) = operandErrors (C .regs) sp (map quantum os)
+stmtErrors C (call sp ns x es os) =
+    arityErrors (C .gates x) sp ns x (length es) (length os) ++ (matched (C .regs) sp (map quantum os) ++ exprsErrors (C .params) sp es)
+stmtErrors C (if sp o vs v s) =
+    operandErrors (C .regs) sp (classic o ∷ []) ++ (stmtErrors C s ++ compareErrors (assertReg (C .regs) sp (classic o)) sp o vs v)
+stmtErrors C missing = []
 
-unfoldable pub stmtsErrors : List Gate → Scope → List Stmt → List Error
-stmtsErrors gs C [] = []
-stmtsErrors gs C (s ∷ ss) = stmtErrors gs C s ++ stmtsErrors gs C ss
+unfoldable pub stmtsErrors : Scope → List Stmt → List Error
+stmtsErrors C [] = []
+stmtsErrors C (s ∷ ss) = stmtErrors C s ++ stmtsErrors C ss
 
 -- ---- top-level statements, then bodies in declaration order: check_gates, check_defs
 
-unfoldable pub topErrors : List Gate → Scope → List Decl → List Error
-topErrors gs C [] = []
-topErrors gs C (include sp x ∷ ds) = topErrors gs C ds
-topErrors gs C (reg c d o ∷ ds) = topErrors gs C ds
-topErrors gs C (gate g ∷ ds) = topErrors gs C ds
-topErrors gs C (top s ∷ ds) = stmtErrors gs C s ++ topErrors gs C ds
+unfoldable pub topErrors : Scope → List Decl → List Error
+topErrors C [] = []
+topErrors C (include sp x ∷ ds) = topErrors C ds
+topErrors C (reg c d o ∷ ds) = topErrors C ds
+topErrors C (gate g ∷ ds) = topErrors C ds
+topErrors C (top s ∷ ds) = stmtErrors C s ++ topErrors C ds
 
-abbrev pub bodyErrors : List Gate → Scope → Option (List Stmt) → List Error
-bodyErrors gs C none = []
-bodyErrors gs C (some ss) = stmtsErrors gs C ss
+abbrev pub bodyErrors : Scope → Option (List Stmt) → List Error
+bodyErrors C none = []
+bodyErrors C (some ss) = stmtsErrors C ss
 
 -- 01: "its body is still checked with its own names": each GATE field's, first entry or not
 unfoldable pub defErrors : List Gate → List Decl → List Error
 defErrors gs [] = []
 defErrors gs (include sp x ∷ ds) = defErrors gs ds
 defErrors gs (reg c d o ∷ ds) = defErrors gs ds
-defErrors gs (gate g ∷ ds) = bodyErrors gs (bodyScope g) (g .body) ++ defErrors gs ds
+defErrors gs (gate g ∷ ds) = bodyErrors (bodyScope gs g) (g .body) ++ defErrors gs ds
 defErrors gs (top s ∷ ds) = defErrors gs ds
 
 -- 01: "Order: gate headers; register declarations; top-level statements; bodies in declaration order; recursion." Recursion is on page Calls.
 unfoldable pub localErrors : Program → List Error
 localErrors p =
-    declErrors [] (p .decls) ++ (regErrors [] (p .decls) ++ (topErrors (gatesOf p) (topScope (p .decls)) (p .decls) ++ defErrors (gatesOf p) (p .decls)))
+    declErrors [] (p .decls) ++ (regErrors [] (p .decls) ++ (topErrors (topScope (gatesOf p) (p .decls)) (p .decls) ++ defErrors (gatesOf p) (p .decls)))

@@ -6,11 +6,13 @@ use mathlib.Core.Option.{Option, none, some}
 use lib.ListN.{length, getD}
 use lib.Dec.{ltb, leb, eqb}
 use Rattle.rules.specs.declared.Operand.{Operand}
+use Rattle.rules.specs.declared.FoundGate.{FoundGate}
+use Rattle.rules.specs.declared.FoundGate.the-variants.{Known, Unknown}
 use Rattle.rules.specs.declared.Reg.{Reg}
 use Rattle.rules.specs.Basics.{pick}
 use Rattle.rules.specs.Syntax.{Expr, pi, real, int, var, two, one, Named, Stmt, u, cx, measure, reset, barrier, call, if, missing, Gate, Decl, include, reg, gate, top, Program}
 use Rattle.rules.specs.Errors.{Error, bytes2, bytes4, bytes8, tagged}
-use Rattle.rules.specs.Checking.{gateAt, numberOf, isGate, gatesOf, registers, Scope, topScope, bodyScope, isParam, Asked, quantum, classic, Sized, size, bad, assertReg}
+use Rattle.rules.specs.Checking.{gateAt, gatesOf, argument, registers, Scope, topScope, bodyScope, Asked, quantum, classic, Sized, size, bad, assertReg}
 
 -- ---- entries. 01: "Entries are fields: 32 U qubit; 33 CX two; 34 MEASURE qubit, bit; 35 RESET qubit; 36 one barrier qubit each, .. then 37 empty;
 -- 38 opaque call: name, qubits; 39 IF first bit, width (4 bytes each), value (8), then the governed entries, then 40 empty. Bit numbers take 4 bytes."
@@ -88,15 +90,18 @@ bitsOf k [] = 0
 bitsOf true (r ∷ rs) = pick (r .classical) (r .size) 0 + bitsOf true rs
 bitsOf false (r ∷ rs) = pick (r .classical) 0 (r .size) + bitsOf false rs
 
--- Where a statement runs: what names mean, and the first bit of each name of the scope's rows.
+-- the first bit of a name, where the rows begin at the starts
+unfoldable pub bitOf : List Reg → (starts : List ℕ) → ℕ → ℕ
+bitOf rs starts x = getD starts (latestOf (length rs) (length rs) rs x) 0
+
+-- Where a statement runs: what names mean, and the first bit of each.
 pub record Place : Type 0 where
   pub scope : Scope
-  pub starts : List ℕ
+  pub bit : ℕ → ℕ
 
 -- the first bit that an operand names
 unfoldable pub startOf : Place → Operand → ℕ
-startOf P o =
-    getD (P .starts) (latestOf (length (P .scope .regs)) (length (P .scope .regs)) (P .scope .regs) (o .name)) 0 + pick (o .indexed) (o .index) 0
+startOf P o = P .bit (o .name) + pick (o .indexed) (o .index) 0
 
 -- ---- sizes and pairing, by the operand rule of check
 
@@ -136,17 +141,17 @@ spread P qs f = with (sizes (P .scope) qs) (λ ns. guard (paired (common ns) ns)
 
 -- ---- expressions: stuck at an undeclared parameter
 
-unfoldable pub known : List Named → Expr → Bool
-known ps (pi sp) = true
-known ps (real sp v) = true
-known ps (int sp v) = true
-known ps (var sp x) = isParam ps x
-known ps (two o sp x y) = known ps x && known ps y
-known ps (one o sp x) = known ps x
+unfoldable pub known : (ℕ → Bool) → Expr → Bool
+known param (pi sp) = true
+known param (real sp v) = true
+known param (int sp v) = true
+known param (var sp x) = param x
+known param (two o sp x y) = known param x && known param y
+known param (one o sp x) = known param x
 
-unfoldable pub allKnown : List Named → List Expr → Bool
-allKnown ps [] = true
-allKnown ps (e ∷ es) = known ps e && allKnown ps es
+unfoldable pub allKnown : (ℕ → Bool) → List Expr → Bool
+allKnown param [] = true
+allKnown param (e ∷ es) = known param e && allKnown param es
 
 -- ---- statements
 
@@ -160,50 +165,49 @@ barrierQubits P [] qs = []
 barrierQubits P (n ∷ ns) [] = []
 barrierQubits P (n ∷ ns) (q ∷ qs) = qubitsFrom n (startOf P (q .operand)) ++ barrierQubits P ns qs
 
--- 01: stuck at "an undeclared gate .. a wrong count"
-unfoldable pub callable : List Gate → (name params args : ℕ) → Bool
-callable gs x params args =
-    let g = gateAt gs (numberOf gs x) in
-    isGate gs x && (eqb (length (g .params)) params && eqb (length (g .args)) args)
+-- 01: stuck at "an undeclared gate .. a wrong count"; f is what a call of a gate comes to
+abbrev pub calling : FoundGate → (params args : ℕ) → (ℕ → Out) → Out
+calling Unknown params args f = stuck
+calling (Known h) params args f = guard (eqb (h .params) params && eqb (h .args) args) (f (h .number))
 
--- `call g qs` is what a call of gate g on the qubits qs comes to
-unfoldable pub run : List Gate → (call : ℕ → List ℕ → Out) → Place → Stmt → Out
-run gs f P (u sp o x y z) =
+-- `f g qs` is what a call of gate g on the qubits qs comes to
+unfoldable pub run : (f : ℕ → List ℕ → Out) → Place → Stmt → Out
+run f P (u sp o x y z) =
     guard (allKnown (P .scope .params) (x ∷ y ∷ z ∷ [])) (spread P (quantum o ∷ []) (λ qs. done (uE (getD qs 0 0) ∷ [])))
-run gs f P (cx sp x y) = spread P (quantum x ∷ quantum y ∷ []) (λ qs. done (cxE (getD qs 0 0) (getD qs 1 0) ∷ []))
-run gs f P (measure sp x y) = spread P (quantum x ∷ classic y ∷ []) (λ qs. done (measureE (getD qs 0 0) (getD qs 1 0) ∷ []))
-run gs f P (reset sp o) = spread P (quantum o ∷ []) (λ qs. done (resetE (getD qs 0 0) ∷ []))
-run gs f P (barrier sp os) =
+run f P (cx sp x y) = spread P (quantum x ∷ quantum y ∷ []) (λ qs. done (cxE (getD qs 0 0) (getD qs 1 0) ∷ []))
+run f P (measure sp x y) = spread P (quantum x ∷ classic y ∷ []) (λ qs. done (measureE (getD qs 0 0) (getD qs 1 0) ∷ []))
+run f P (reset sp o) = spread P (quantum o ∷ []) (λ qs. done (resetE (getD qs 0 0) ∷ []))
+run f P (barrier sp os) =
     with (sizes (P .scope) (map quantum os)) (λ ns. done (barrierQubits P ns (map quantum os) ++ (barrierEndE ∷ [])))
-run gs f P (call sp ns x es os) =
-    guard (callable gs x (length es) (length os) && allKnown (P .scope .params) es) (spread P (map quantum os) (f (numberOf gs x)))
-run gs f P (if sp o vs v s) =
+run f P (call sp ns x es os) =
+    calling (P .scope .gates x) (length es) (length os) (λ g. guard (allKnown (P .scope .params) es) (spread P (map quantum os) (f g)))
+run f P (if sp o vs v s) =
     with (sizeOnly (assertReg (P .scope .regs) 0 (classic o))) (λ w.
-    guard (ltb v (2 ^ w)) (both (done (ifE (startOf P o) w v ∷ [])) (both (run gs f P s) (done (ifEndE ∷ [])))))
-run gs f P missing = done []
+    guard (ltb v (2 ^ w)) (both (done (ifE (startOf P o) w v ∷ [])) (both (run f P s) (done (ifEndE ∷ [])))))
+run f P missing = done []
 
-unfoldable pub runs : List Gate → (call : ℕ → List ℕ → Out) → Place → List Stmt → Out
-runs gs f P [] = done []
-runs gs f P (s ∷ ss) = both (run gs f P s) (runs gs f P ss)
+unfoldable pub runs : (f : ℕ → List ℕ → Out) → Place → List Stmt → Out
+runs f P [] = done []
+runs f P (s ∷ ss) = both (run f P s) (runs f P ss)
 
 -- ---- gates and programs
 
--- the arguments' qubits are qs
-unfoldable pub bodyPlace : Gate → List ℕ → Place
-bodyPlace g qs = record { scope = bodyScope g; starts = qs }
+-- in a body the arguments' qubits are qs
+unfoldable pub bodyPlace : List Gate → Gate → List ℕ → Place
+bodyPlace gs g qs = record { scope = bodyScope gs g; bit = bitOf (map argument (g .args)) qs }
 
 -- 01: "A call to a gate with a body runs the body once for each j."; "38 opaque call: name, qubits"
-abbrev pub runBody : List Gate → (call : ℕ → List ℕ → Out) → Gate → Option (List Stmt) → List ℕ → Out
+abbrev pub runBody : List Gate → (f : ℕ → List ℕ → Out) → Gate → Option (List Stmt) → List ℕ → Out
 runBody gs f g none qs = done (opaqueE (g .name) qs ∷ [])
-runBody gs f g (some ss) qs = runs gs f (bodyPlace g qs) ss
+runBody gs f g (some ss) qs = runs f (bodyPlace gs g qs) ss
 
 -- 01: "The run carries an allowed call depth. It is stuck at: .. a call at depth 0."
 unfoldable pub runGate : List Gate → (depth : ℕ) → ℕ → List ℕ → Out
 runGate gs zero g qs = stuck
 runGate gs (suc d) g qs = runBody gs (runGate gs d) (gateAt gs g) (gateAt gs g .body) qs
 
-unfoldable pub topPlace : List Decl → Place
-topPlace ds = record { scope = topScope ds; starts = startsFrom 0 0 (registers ds) }
+unfoldable pub topPlace : List Gate → List Decl → Place
+topPlace gs ds = record { scope = topScope gs ds; bit = bitOf (registers ds) (startsFrom 0 0 (registers ds)) }
 
 unfoldable pub tops : List Decl → List Stmt
 tops [] = []
@@ -214,7 +218,7 @@ tops (top s ∷ ds) = s ∷ tops ds
 
 -- the run with an allowed call depth
 unfoldable pub runAt : (depth : ℕ) → Program → Out
-runAt d p = runs (gatesOf p) (runGate (gatesOf p) d) (topPlace (p .decls)) (tops (p .decls))
+runAt d p = runs (runGate (gatesOf p) d) (topPlace (gatesOf p) (p .decls)) (tops (p .decls))
 
 -- 01: "Demand 3 starts with depth equal to the number of gates."
 unfoldable pub runOf : Program → Out

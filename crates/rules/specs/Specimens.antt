@@ -12,10 +12,10 @@ use Rattle.rules.specs.Items.{times, byte, word2, word4, word8, span, na
 use Rattle.rules.specs.Reading.{sameBytes, among, fresh, name-field, include-field, reg-field, gate-lists, gate-field, u-field, pair-field, reset-field, barrier-field, call-lists, call-field, if-field, items, payload, placed, within, next, names-then, field, more, from, scan}
 use Rattle.rules.specs.Grouping.{stmt, stmts, open-after, decls, names, group, grouped, read}
 use Rattle.rules.specs.Errors.{Error, redefinedGate, redefinedParameter, recursiveDefinition, zeroSizeRegister, undefinedParameter, invalidComparisonSize, wrongArgumentArity, wrongOperandSize, undefinedRegister, bytes2, bytes4, bytes8, bit, operandBytes, pairBytes, tagged, errorField}
-use Rattle.rules.specs.Checking.{numberOf, isGate, entries, gatesOf, latest, registers, topScope, bodyScope, isParam, repeats, headerErrors, declErrors, registerErrors, regErrors, assertReg, operandErrors, matchErrors, exprErrors, exprsErrors, valueSize, compareErrors, arityErrors, stmtErrors, stmtsErrors, topErrors, defErrors, localErrors}
+use Rattle.rules.specs.Checking.{numberOf, isGate, header, entered, entries, gatesOf, latest, registers, topScope, bodyScope, isParam, repeats, declErrors, registerErrors, regErrors, assertReg, operandErrors, matchErrors, exprErrors, exprsErrors, valueSize, compareErrors, stmtErrors, stmtsErrors, topErrors, defErrors, localErrors}
 use Rattle.rules.specs.Graph.{walks, reaches, leads, those, leaders, way, cycle}
 use Rattle.rules.specs.Calls.{stmtCalls, stmtsCalls, declCalls, callsOf, edge, earliest, pairs, groupError, recursionErrors, errors}
-use Rattle.rules.specs.Run.{bitsBytes, entryField, turns, latestOf, startsFrom, bitsOf, startOf, sizes, common, paired, lanes, spread, known, allKnown, qubitsFrom, barrierQubits, callable, run, runs, bodyPlace, runGate, topPlace, tops, runAt, runOf}
+use Rattle.rules.specs.Run.{bitsBytes, entryField, turns, latestOf, startsFrom, bitsOf, bitOf, startOf, sizes, common, paired, lanes, spread, known, allKnown, qubitsFrom, barrierQubits, run, runs, bodyPlace, runGate, topPlace, tops, runAt, runOf}
 use Rattle.rules.specs.Answers.{Result, flat, lay, checkRead, check, laidRun, expandRead, expand}
 
 -- ---- fields of an image
@@ -144,7 +144,7 @@ abbrev pub wanted : List Specimen → List Result
 wanted l = map (λ (s : Specimen). record { answer = s .answer; buffer = s .writes }) l
 
 pub specimens : given table ≡ wanted table
-unfolding first firstFrom any times byte word2 word4 word8 span name flag count operand named opcode leaf node expr sameBytes among fresh name-field include-field reg-field gate-lists gate-field u-field pair-field reset-field barrier-field call-lists call-field if-field items payload placed within next names-then field more from scan stmt stmts open-after decls names group grouped read pairBytes errorField numberOf isGate entries gatesOf latest registers topScope bodyScope isParam repeats headerErrors declErrors registerErrors regErrors assertReg operandErrors matchErrors exprErrors exprsErrors valueSize compareErrors arityErrors stmtErrors stmtsErrors topErrors defErrors localErrors walks reaches leads those leaders way cycle stmtCalls stmtsCalls declCalls callsOf edge earliest pairs groupError recursionErrors errors bitsBytes entryField turns latestOf startsFrom bitsOf startOf sizes common paired lanes spread known allKnown qubitsFrom barrierQubits callable run runs bodyPlace runGate topPlace tops runAt runOf flat lay checkRead check laidRun expandRead expand
+unfolding first firstFrom any times byte word2 word4 word8 span name flag count operand named opcode leaf node expr sameBytes among fresh name-field include-field reg-field gate-lists gate-field u-field pair-field reset-field barrier-field call-lists call-field if-field items payload placed within next names-then field more from scan stmt stmts open-after decls names group grouped read pairBytes errorField numberOf isGate header entered entries gatesOf latest registers topScope bodyScope isParam repeats declErrors registerErrors regErrors assertReg operandErrors matchErrors exprErrors exprsErrors valueSize compareErrors stmtErrors stmtsErrors topErrors defErrors localErrors walks reaches leads those leaders way cycle stmtCalls stmtsCalls declCalls callsOf edge earliest pairs groupError recursionErrors errors bitsBytes entryField turns latestOf startsFrom bitsOf bitOf startOf sizes common paired lanes spread known allKnown qubitsFrom barrierQubits run runs bodyPlace runGate topPlace tops runAt runOf flat lay checkRead check laidRun expandRead expand
 specimens = refl
 
 -- ---- what 01's wrong builds would answer otherwise
@@ -171,5 +171,5 @@ rest =
     ∷ []
 
 pub further : given rest ≡ wanted rest
-unfolding first firstFrom any times byte word2 word4 word8 span name flag count operand named opcode leaf node expr sameBytes among fresh name-field include-field reg-field gate-lists gate-field u-field pair-field reset-field barrier-field call-lists call-field if-field items payload placed within next names-then field more from scan stmt stmts open-after decls names group grouped read pairBytes errorField numberOf isGate entries gatesOf latest registers topScope bodyScope isParam repeats headerErrors declErrors registerErrors regErrors assertReg operandErrors matchErrors exprErrors exprsErrors valueSize compareErrors arityErrors stmtErrors stmtsErrors topErrors defErrors localErrors walks reaches leads those leaders way cycle stmtCalls stmtsCalls declCalls callsOf edge earliest pairs groupError recursionErrors errors bitsBytes entryField turns latestOf startsFrom bitsOf startOf sizes common paired lanes spread known allKnown qubitsFrom barrierQubits callable run runs bodyPlace runGate topPlace tops runAt runOf flat lay checkRead check laidRun expandRead expand
+unfolding first firstFrom any times byte word2 word4 word8 span name flag count operand named opcode leaf node expr sameBytes among fresh name-field include-field reg-field gate-lists gate-field u-field pair-field reset-field barrier-field call-lists call-field if-field items payload placed within next names-then field more from scan stmt stmts open-after decls names group grouped read pairBytes errorField numberOf isGate header entered entries gatesOf latest registers topScope bodyScope isParam repeats declErrors registerErrors regErrors assertReg operandErrors matchErrors exprErrors exprsErrors valueSize compareErrors stmtErrors stmtsErrors topErrors defErrors localErrors walks reaches leads those leaders way cycle stmtCalls stmtsCalls declCalls callsOf edge earliest pairs groupError recursionErrors errors bitsBytes entryField turns latestOf startsFrom bitsOf bitOf startOf sizes common paired lanes spread known allKnown qubitsFrom barrierQubits run runs bodyPlace runGate topPlace tops runAt runOf flat lay checkRead check laidRun expandRead expand
 further = refl

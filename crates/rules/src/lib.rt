@@ -37,6 +37,19 @@ pub struct Counts {
     pub begun: bool,
 }
 
+// The first entry of a gate's name: its number, its counts of parameters and arguments, and its declaration span.
+pub struct Header {
+    pub number: u64,
+    pub params: u64,
+    pub args: u64,
+    pub decl: u64,
+}
+
+pub enum FoundGate {
+    Known(Header),
+    Unknown,
+}
+
 // What a name stands for where a statement stands: a register, or an argument of a gate.
 pub struct Reg {
     pub name: u64,
@@ -48,6 +61,12 @@ pub struct Reg {
 pub enum Found {
     Row(Reg),
     Nothing,
+}
+
+// What matching has fixed: a size and its span; size 1 where nothing is yet.
+pub struct Match {
+    pub size: u64,
+    pub span: u64,
 }
 
 // What a service answers. `specs/Answers.antt` gives the table's number and the two values of each.

@@ -9,9 +9,9 @@ use borrow.Author.Tests.{le-leb, lt-leb, ne-eqb}
 use lib.Dec.{leb, eqb}
 use Rattle.rules.specs.Basics.{pick}
 use Rattle.rules.specs.Syntax.{Field, nameF, includeF, regF, gateF, endF, stmtF, ifF}
-use Rattle.rules.specs.Items.{le2, le4}
+use Rattle.rules.specs.Items.{le4}
 use Rattle.rules.specs.Reading.{isDecl, isStmt}
-use Rattle.views.specs.View.{operandIn, gateIn, ifIn, stmtIn, isPlain, fieldIn}
+use Rattle.views.specs.View.{nameIn, operandIn, gateIn, ifIn, stmtIn, isPlain, fieldIn}
 
 -- what the tests make of a tag that stands for no field
 pub record Unknown (t : ℕ) : Type 0 where
@@ -41,7 +41,8 @@ module _ (t : ℕ) (h : 7 ≤ t) (out : isStmt t ≡ false) (plain : isPlain t �
     not22 = ne-eqb t 22 top;
     decl = let e : 5 < t = omega arith in let d : 2 ≤ t = omega arith in rw (le-leb 2 t d, lt-leb t 5 e) refl;
     stmt = out;
-    plain = plain }
+    plain = plain;
+  }
 
 -- seven numbers in a row
 seven : (P : ℕ → Type 0) → P 0 → P 1 → P 2 → P 3 → P 4 → P 5 → P 6 → (i : ℕ) → i < 7 → P i
@@ -75,7 +76,7 @@ module _ (P : ℕ → Type 0) where
 
 -- a field by the kind of its tag: the statements but IF are all alike, and the rest that no pass looks at
 module _ (P : ℕ → Field → Type 0) (s : List ℕ) where
-  pub by-kind : ((t : ℕ) → isPlain t ≡ true → P t (stmtF (stmtIn t s))) → P 22 (ifIn s) → P 2 (includeF (le4 s 0) (le2 s 4))
+  pub by-kind : ((t : ℕ) → isPlain t ≡ true → P t (stmtF (stmtIn t s))) → P 22 (ifIn s) → P 2 (includeF (le4 s 0) (nameIn s 4))
       → P 3 (regF false (le4 s 0) (operandIn s 4)) → P 4 (regF true (le4 s 0) (operandIn s 4)) → P 5 (gateIn s) → P 6 endF
       → P 1 (nameF s) → ((t : ℕ) → Unknown t → P t (nameF s)) → (t : ℕ) → P t (fieldIn t s)
   unfolding fieldIn

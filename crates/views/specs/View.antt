@@ -1,12 +1,12 @@
 -- What stands in a list of bytes, taken as it is: nothing is tested, and a byte past the end counts as 0. A pass over an image that was read is
 -- proved against these, so that none of its functions asks for a good image; page Bridge says that of an image that is read they give the program.
-use Prim.Native.Nat.{ℕ, zero, suc, _+_, _-_, _*_, _<_, _≤_}
+use Prim.Native.Nat.{ℕ, zero, suc, _+_, _-_, _*_, _%_, _<_, _≤_, min}
 use native.Mathlib.Omega.{arith}
-use native.Mathlib.Decide.{ℕ-discrete}
+use native.Mathlib.Decide.{decLe}
 use mathlib.Core.Path.{_≡_, refl, sym, ap, _∙_}
 use mathlib.Core.List.{List, [], _∷_}
 use mathlib.Core.Bool.{Bool, true, false}
-use borrow.Author.Tests.{lt-ltb, le-ltb, ne-eqb}
+use borrow.Author.Tests.{lt-ltb, le-ltb}
 use lib.ListN.{length, getD}
 use lib.Dec.{ltb, leb, eqb}
 use Rattle.rules.specs.declared.Operand.{Operand}
@@ -18,11 +18,15 @@ use Rattle.rules.specs.Grouping.{group}
 
 -- ---- items
 
+-- Every name of an image that is read is below 512; others are taken modulo 512, so that a table by name holds them all.
+abbrev pub nameIn : List ℕ → ℕ → ℕ
+nameIn s at = le2 s at % 512
+
 unfoldable pub operandIn : List ℕ → ℕ → Operand
-operandIn s at = record { span = le4 s at; name = le2 s (at + 4); indexed = eqb (getD s (at + 6) 0) 1; index = le8 s (at + 7) }
+operandIn s at = record { span = le4 s at; name = nameIn s (at + 4); indexed = eqb (getD s (at + 6) 0) 1; index = le8 s (at + 7) }
 
 unfoldable pub namedIn : List ℕ → ℕ → Named
-namedIn s at = record { span = le4 s at; name = le2 s (at + 4) }
+namedIn s at = record { span = le4 s at; name = nameIn s (at + 4) }
 
 -- k items in a row, each by v, with w bytes
 unfoldable pub rowIn : {A : Type 0} → (List ℕ → ℕ → A) → (w : ℕ) → ℕ → List ℕ → ℕ → List A
@@ -33,27 +37,35 @@ unfoldable pub rowPast : (w : ℕ) → ℕ → ℕ → ℕ
 rowPast w zero at = at
 rowPast w (suc k) at = rowPast w k (at + w)
 
--- ---- expressions, at most d deep
+-- ---- expressions, at most d deep; past the end there are none, and no place runs beyond it
+
+-- k places on, or the end
+abbrev pub on : List ℕ → ℕ → ℕ → ℕ
+on s at k = min (at + k) (length s)
 
 unfoldable pub leafIn : (o : ℕ) → List ℕ → ℕ → ℕ → Expr
-leafIn o s at = pick (eqb o 0) pi (pick (eqb o 1) (λ sp. real sp (le4 s at)) (pick (eqb o 2) (λ sp. int sp (le8 s at)) (λ sp. var sp (le2 s at))))
+leafIn o s at = pick (eqb o 0) pi (pick (eqb o 1) (λ sp. real sp (le4 s at)) (pick (eqb o 2) (λ sp. int sp (le8 s at)) (λ sp. var sp (nameIn s at))))
 
-unfoldable pub leafPast : (o : ℕ) → ℕ → ℕ
-leafPast o at = pick (eqb o 0) at (pick (eqb o 1) (at + 4) (pick (eqb o 2) (at + 8) (at + 2)))
+unfoldable pub leafPast : (o : ℕ) → List ℕ → ℕ → ℕ
+leafPast o s at = pick (eqb o 0) at (pick (eqb o 1) (on s at 4) (pick (eqb o 2) (on s at 8) (on s at 2)))
 
 unfoldable pub exprPast : (d : ℕ) → List ℕ → ℕ → ℕ
 exprPast zero s at = at
 exprPast (suc d) s at =
-    pick (ltb (getD s at 0) 4) (leafPast (getD s at 0) (at + 5))
-    (pick (ltb (getD s at 0) 9) (exprPast d s (exprPast d s (at + 5))) (exprPast d s (at + 5)))
+    pick (ltb at (length s))
+    (pick (ltb (getD s at 0) 4) (leafPast (getD s at 0) s (on s at 5))
+    (pick (ltb (getD s at 0) 9) (exprPast d s (exprPast d s (on s at 5))) (exprPast d s (on s at 5))))
+    at
 
 unfoldable pub exprIn : (d : ℕ) → List ℕ → ℕ → Expr
 exprIn zero s at = pi 0
 exprIn (suc d) s at =
-    pick (ltb (getD s at 0) 4) (leafIn (getD s at 0) s (at + 5) (le4 s (at + 1)))
+    pick (ltb at (length s))
+    (pick (ltb (getD s at 0) 4) (leafIn (getD s at 0) s (on s at 5) (le4 s (at + 1)))
     (pick (ltb (getD s at 0) 9)
-      (two (getD s at 0) (le4 s (at + 1)) (exprIn d s (at + 5)) (exprIn d s (exprPast d s (at + 5))))
-      (one (getD s at 0) (le4 s (at + 1)) (exprIn d s (at + 5))))
+    (two (getD s at 0) (le4 s (at + 1)) (exprIn d s (on s at 5)) (exprIn d s (exprPast d s (on s at 5))))
+    (one (getD s at 0) (le4 s (at + 1)) (exprIn d s (on s at 5)))))
+    (pi 0)
 
 -- k expressions in a row
 unfoldable pub exprsIn : ℕ → List ℕ → ℕ → List Expr
@@ -73,7 +85,7 @@ unfoldable pub barrierIn : List ℕ → Stmt
 barrierIn s = barrier (le4 s 0) (rowIn operandIn 15 (getD s 4 0) s 5)
 
 unfoldable pub callIn : List ℕ → Stmt
-callIn s = call (le4 s 0) (le4 s 4) (le2 s 8) (exprsIn (getD s 10 0) s (rowPast 15 (getD s 11 0) 12)) (rowIn operandIn 15 (getD s 11 0) s 12)
+callIn s = call (le4 s 0) (le4 s 4) (nameIn s 8) (exprsIn (getD s 10 0) s (rowPast 15 (getD s 11 0) 12)) (rowIn operandIn 15 (getD s 11 0) s 12)
 
 unfoldable pub paramsIn : List ℕ → List Named
 paramsIn s = rowIn namedIn 6 (getD s 11 0) s 13
@@ -82,7 +94,7 @@ unfoldable pub argsIn : List ℕ → List Named
 argsIn s = rowIn namedIn 6 (getD s 12 0) s (rowPast 6 (getD s 11 0) 13)
 
 unfoldable pub gateIn : List ℕ → Field
-gateIn s = gateF (le4 s 0) (le4 s 4) (le2 s 8) (eqb (getD s 10 0) 1) (paramsIn s) (argsIn s)
+gateIn s = gateF (le4 s 0) (le4 s 4) (nameIn s 8) (eqb (getD s 10 0) 1) (paramsIn s) (argsIn s)
 
 unfoldable pub ifIn : List ℕ → Field
 ifIn s = ifF (le4 s 0) (operandIn s 4) (le4 s 19) (le8 s 23)
@@ -104,7 +116,7 @@ unfoldable pub fieldIn : ℕ → List ℕ → Field
 fieldIn t s =
     pick (isPlain t) (stmtF (stmtIn t s))
     (pick (eqb t 22) (ifIn s)
-    (pick (eqb t 2) (includeF (le4 s 0) (le2 s 4))
+    (pick (eqb t 2) (includeF (le4 s 0) (nameIn s 4))
     (pick (eqb t 3) (regF false (le4 s 0) (operandIn s 4))
     (pick (eqb t 4) (regF true (le4 s 0) (operandIn s 4))
     (pick (eqb t 5) (gateIn s)
@@ -138,7 +150,11 @@ enough (suc k) zero img at h g = let e : length img ≤ at = omega arith in rw (
 enough (suc k) (suc j) img at h g =
     ap (λ l. pick (ltb at (length img)) (fieldAt img at ∷ l) []) (enough k j img (past img at) (omega arith) (omega arith))
 
--- the two laws that a pass needs
+-- the place after a field, or the end of the image where that is nearer
+abbrev pub nextIn : List ℕ → ℕ → ℕ
+nextIn img at = min (length img) (past img at)
+
+-- the laws that a pass needs
 pub rest-end : (img : List ℕ) (at : ℕ) → length img ≤ at → rest img at ≡ []
 unfolding rest fieldsIn
 rest-end img at h = enough (length img - at) zero img at (omega arith) (omega arith)
@@ -148,3 +164,12 @@ unfolding rest fieldsIn
 rest-more img at h =
     enough (length img - at) (suc (length img - (at + 1))) img at (omega arith) (omega arith)
     ∙ (rw (lt-ltb at (length img) h) (ap (λ l. fieldAt img at ∷ l) (enough (length img - (at + 1)) (length img - past img at) img (past img at) (omega arith) (omega arith))))
+
+pub rest-clip : (img : List ℕ) (at : ℕ) → rest img (nextIn img at) ≡ rest img (past img at)
+rest-clip img at = elim (decLe (past img at) (length img)) [
+  | yes h ↦ let e : nextIn img at ≡ past img at = omega arith in ap (rest img) e
+  | no h ↦ rest-end img (nextIn img at) (omega arith) ∙ sym (rest-end img (past img at) (omega arith))
+]
+
+pub rest-next : (img : List ℕ) (at : ℕ) → at < length img → rest img at ≡ fieldAt img at ∷ rest img (nextIn img at)
+rest-next img at h = rest-more img at h ∙ ap (λ l. fieldAt img at ∷ l) (sym (rest-clip img at))
