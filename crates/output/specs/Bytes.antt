@@ -50,7 +50,8 @@ wrote-then {o} {o₁} {o₂} {a} {b} {p} {q} {r} v w = record {
       ∙ sets-stop (sets o p a) p (length a) q b (omega (arith, length-sets o p a)) (v .place)
       ∙ sets-append o p a b;
   long = w .long ∙ v .long;
-  place = omega (arith, v .place, w .place, length-append a b) }
+  place = omega (arith, v .place, w .place, length-append a b);
+}
 
 pub wrote-none : (o : List ℕ) (p : ℕ) → Wrote o p [] o p
 wrote-none o p = record { buffer = λ h. refl; long = refl; place = omega arith }

@@ -31,7 +31,8 @@ module _ {E : Type 0} (w : E → List ℕ) where
   pub put-then : {o o₁ o₂ : List ℕ} {s s₁ s₂ : Sink} {a b : List E} → Put o s a o₁ s₁ → Put o₁ s₁ b o₂ s₂ → Put o s (a ++ b) o₂ s₂
   put-then {a = a} {b = b} h k = record {
     wrote = rw (map-append w a b, flat-append (map w a) (map w b)) (wrote-then (h .wrote) (k .wrote));
-    count = omega (arith, h .count, k .count, length-append a b) }
+    count = omega (arith, h .count, k .count, length-append a b);
+  }
 
   pub put-same : {o o′ : List ℕ} {s s′ : Sink} {a b : List E} → Put o s a o′ s′ → a ≡ b → Put o s b o′ s′
   put-same h e = rw (← e) h

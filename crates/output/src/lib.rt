@@ -6,7 +6,6 @@ ghost use lib.ListN.{length};
 ghost use Rattle.rules.specs.Errors.{bytes2, bytes4, bytes8, bit, operandBytes, tagged, redefinedGate, redefinedArgument, redefinedParameter, zeroSizeRegister, redefinedRegister, undefinedParameter, invalidComparisonSize, wrongArgumentArity, wrongParameterArity, undefinedGate, wrongOperandSize, invalidRegisterIndex, wrongRegisterType, undefinedRegister};
 ghost use Rattle.output.specs.Bytes.{plus, Wrote};
 ghost use Rattle.output.specs.Sinks.{Said};
-
 use rules::Operand;
 
 pub struct Sink {
@@ -20,7 +19,11 @@ pub struct Sink {
 pub fn sum(a: usize, b: usize) -> usize
     ensures { λ r. ⌜ r ≡ plus a b ⌝ }
 {
-    if b <= 18446744073709551615 - a { a + b } else { 18446744073709551615 }
+    if b <= 18446744073709551615 - a {
+        a + b
+    } else {
+        18446744073709551615
+    }
 }
 
 // One byte, where there is room for it.
@@ -60,7 +63,11 @@ pub fn put8(out: &mut [u8], at: usize, v: u64) -> usize
 pub fn put_flag(out: &mut [u8], at: usize, v: bool) -> usize
     ensures { λ r. ⌜ Wrote (now (out .entry)) at (bit v ∷ []) (now (out .exit)) r ⌝ }
 {
-    if v { put1(out, at, 1) } else { put1(out, at, 0) }
+    if v {
+        put1(out, at, 1)
+    } else {
+        put1(out, at, 0)
+    }
 }
 
 // A field's tag and length.
@@ -84,12 +91,23 @@ fn put_operand(out: &mut [u8], at: usize, o: Operand) -> usize
 pub fn one_more(s: Sink, bytes: usize) -> Sink
     ensures { λ r. ⌜ (r .items ≡ plus (s .items) 1) × (r .bytes ≡ bytes) ⌝ }
 {
-    Sink { items: sum(s.items, 1), bytes: bytes }
+    Sink {
+        items: sum(s.items, 1),
+        bytes: bytes,
+    }
 }
 
 // ---- the fields of several kinds
 
-fn put_named(out: &mut [u8], at: usize, tag: u8, span: u64, name: u64, decl: u64, prev: u64) -> usize
+fn put_named(
+    out: &mut [u8],
+    at: usize,
+    tag: u8,
+    span: u64,
+    name: u64,
+    decl: u64,
+    prev: u64,
+) -> usize
     ensures { λ r. ⌜ Wrote (now (out .entry)) at (tagged tag (bytes4 span ++ (bytes2 name ++ (bytes4 decl ++ bytes4 prev)))) (now (out .exit)) r ⌝ }
 {
     let a = put_head(out, at, tag, 14);
@@ -99,7 +117,16 @@ fn put_named(out: &mut [u8], at: usize, tag: u8, span: u64, name: u64, decl: u64
     put4(out, d, prev)
 }
 
-fn put_arity(out: &mut [u8], at: usize, tag: u8, stmt: u64, def: u64, name: u64, arity: u64, actual: u64) -> usize
+fn put_arity(
+    out: &mut [u8],
+    at: usize,
+    tag: u8,
+    stmt: u64,
+    def: u64,
+    name: u64,
+    arity: u64,
+    actual: u64,
+) -> usize
     ensures { λ r. ⌜ Wrote (now (out .entry)) at (tagged tag (bytes4 stmt ++ (bytes4 def ++ (bytes2 name ++ (bytes8 arity ++ bytes8 actual))))) (now (out .exit)) r ⌝ }
 {
     let a = put_head(out, at, tag, 26);
@@ -119,14 +146,28 @@ pub fn redefined_gate(out: &mut [u8], s: Sink, span: u64, name: u64, decl: u64, 
     one_more(s, at)
 }
 
-pub fn redefined_argument(out: &mut [u8], s: Sink, span: u64, name: u64, decl: u64, prev: u64) -> Sink
+pub fn redefined_argument(
+    out: &mut [u8],
+    s: Sink,
+    span: u64,
+    name: u64,
+    decl: u64,
+    prev: u64,
+) -> Sink
     ensures { λ r. ⌜ Said (now (out .entry)) s (redefinedArgument span name decl prev ∷ []) (now (out .exit)) r ⌝ }
 {
     let at = put_named(out, s.bytes, 2, span, name, decl, prev);
     one_more(s, at)
 }
 
-pub fn redefined_parameter(out: &mut [u8], s: Sink, span: u64, name: u64, decl: u64, prev: u64) -> Sink
+pub fn redefined_parameter(
+    out: &mut [u8],
+    s: Sink,
+    span: u64,
+    name: u64,
+    decl: u64,
+    prev: u64,
+) -> Sink
     ensures { λ r. ⌜ Said (now (out .entry)) s (redefinedParameter span name decl prev ∷ []) (now (out .exit)) r ⌝ }
 {
     let at = put_named(out, s.bytes, 3, span, name, decl, prev);
@@ -162,7 +203,15 @@ pub fn undefined_parameter(out: &mut [u8], s: Sink, name: u64, stmt: u64, span: 
     one_more(s, at)
 }
 
-pub fn invalid_comparison_size(out: &mut [u8], s: Sink, reg: u64, value: u64, stmt: u64, reg_size: u64, value_size: u64) -> Sink
+pub fn invalid_comparison_size(
+    out: &mut [u8],
+    s: Sink,
+    reg: u64,
+    value: u64,
+    stmt: u64,
+    reg_size: u64,
+    value_size: u64,
+) -> Sink
     ensures { λ r. ⌜ Said (now (out .entry)) s (invalidComparisonSize reg value stmt «reg_size» «value_size» ∷ []) (now (out .exit)) r ⌝ }
 {
     let a = put_head(out, s.bytes, 8, 28);
@@ -174,14 +223,30 @@ pub fn invalid_comparison_size(out: &mut [u8], s: Sink, reg: u64, value: u64, st
     one_more(s, at)
 }
 
-pub fn wrong_argument_arity(out: &mut [u8], s: Sink, stmt: u64, def: u64, name: u64, arity: u64, actual: u64) -> Sink
+pub fn wrong_argument_arity(
+    out: &mut [u8],
+    s: Sink,
+    stmt: u64,
+    def: u64,
+    name: u64,
+    arity: u64,
+    actual: u64,
+) -> Sink
     ensures { λ r. ⌜ Said (now (out .entry)) s (wrongArgumentArity stmt def name arity actual ∷ []) (now (out .exit)) r ⌝ }
 {
     let at = put_arity(out, s.bytes, 9, stmt, def, name, arity, actual);
     one_more(s, at)
 }
 
-pub fn wrong_parameter_arity(out: &mut [u8], s: Sink, stmt: u64, def: u64, name: u64, arity: u64, actual: u64) -> Sink
+pub fn wrong_parameter_arity(
+    out: &mut [u8],
+    s: Sink,
+    stmt: u64,
+    def: u64,
+    name: u64,
+    arity: u64,
+    actual: u64,
+) -> Sink
     ensures { λ r. ⌜ Said (now (out .entry)) s (wrongParameterArity stmt def name arity actual ∷ []) (now (out .exit)) r ⌝ }
 {
     let at = put_arity(out, s.bytes, 10, stmt, def, name, arity, actual);
@@ -198,7 +263,15 @@ pub fn undefined_gate(out: &mut [u8], s: Sink, span: u64, name: u64, stmt: u64) 
     one_more(s, at)
 }
 
-pub fn wrong_operand_size(out: &mut [u8], s: Sink, stmt: u64, span: u64, size: u64, match_span: u64, match_size: u64) -> Sink
+pub fn wrong_operand_size(
+    out: &mut [u8],
+    s: Sink,
+    stmt: u64,
+    span: u64,
+    size: u64,
+    match_span: u64,
+    match_size: u64,
+) -> Sink
     ensures { λ r. ⌜ Said (now (out .entry)) s (wrongOperandSize stmt span size «match_span» «match_size» ∷ []) (now (out .exit)) r ⌝ }
 {
     let a = put_head(out, s.bytes, 12, 28);
@@ -210,7 +283,16 @@ pub fn wrong_operand_size(out: &mut [u8], s: Sink, stmt: u64, span: u64, size: u
     one_more(s, at)
 }
 
-pub fn invalid_register_index(out: &mut [u8], s: Sink, name: u64, index: u64, size: u64, reg: u64, def: u64, stmt: u64) -> Sink
+pub fn invalid_register_index(
+    out: &mut [u8],
+    s: Sink,
+    name: u64,
+    index: u64,
+    size: u64,
+    reg: u64,
+    def: u64,
+    stmt: u64,
+) -> Sink
     ensures { λ r. ⌜ Said (now (out .entry)) s (invalidRegisterIndex name index size reg def stmt ∷ []) (now (out .exit)) r ⌝ }
 {
     let a = put_head(out, s.bytes, 13, 30);
@@ -223,7 +305,15 @@ pub fn invalid_register_index(out: &mut [u8], s: Sink, name: u64, index: u64, si
     one_more(s, at)
 }
 
-pub fn wrong_register_type(out: &mut [u8], s: Sink, name: u64, def: u64, stmt: u64, reg: u64, classical: bool) -> Sink
+pub fn wrong_register_type(
+    out: &mut [u8],
+    s: Sink,
+    name: u64,
+    def: u64,
+    stmt: u64,
+    reg: u64,
+    classical: bool,
+) -> Sink
     ensures { λ r. ⌜ Said (now (out .entry)) s (wrongRegisterType name def stmt reg classical ∷ []) (now (out .exit)) r ⌝ }
 {
     let a = put_head(out, s.bytes, 14, 15);

@@ -32,6 +32,7 @@ put2-spec =
     needs)
     (λ
     c.
-    search
-    (wrote-2,
-    refl)))
+    search (
+      wrote-2,
+      refl,
+    )))
