@@ -1,3 +1,4 @@
 pub mod View
 pub mod Tags
+pub mod Rows
 pub mod Bridge
