@@ -42,42 +42,42 @@ registers-some rs (top s ∷ ds) e = registers-some rs ds e
 
 -- ---- statements
 
-pub top-errors : (gs : List Gate) (C : Scope) (ds : List Decl) → topErrors gs C ds ≡ stmtsErrors gs C (tops ds)
+pub top-errors : (C : Scope) (ds : List Decl) → topErrors C ds ≡ stmtsErrors C (tops ds)
 unfolding topErrors stmtsErrors tops
-top-errors gs C [] = refl
-top-errors gs C (include sp x ∷ ds) = top-errors gs C ds
-top-errors gs C (reg c d o ∷ ds) = top-errors gs C ds
-top-errors gs C (gate g ∷ ds) = top-errors gs C ds
-top-errors gs C (top s ∷ ds) = ap (λ (es : List Error). stmtErrors gs C s ++ es) (top-errors gs C ds)
+top-errors C [] = refl
+top-errors C (include sp x ∷ ds) = top-errors C ds
+top-errors C (reg c d o ∷ ds) = top-errors C ds
+top-errors C (gate g ∷ ds) = top-errors C ds
+top-errors C (top s ∷ ds) = ap (λ (es : List Error). stmtErrors C s ++ es) (top-errors C ds)
 
-body-errors : (gs : List Gate) (ds : List Decl) (g : Gate) → defErrors gs ds ≡ [] → Declares g ds → bodyErrors gs (bodyScope g) (g .body) ≡ []
+body-errors : (gs : List Gate) (ds : List Decl) (g : Gate) → defErrors gs ds ≡ [] → Declares g ds → bodyErrors (bodyScope gs g) (g .body) ≡ []
 unfolding defErrors
 body-errors gs [] g e d = absurd d
 body-errors gs (include sp x ∷ ds) g e d = body-errors gs ds g e d
 body-errors gs (reg c f o ∷ ds) g e d = body-errors gs ds g e d
 body-errors gs (gate h ∷ ds) g e (inl q) =
-    subst (λ (k : Gate). bodyErrors gs (bodyScope k) (k .body) ≡ []) (sym q) (nil-parts (bodyErrors gs (bodyScope h) (h .body)) (defErrors gs ds) e .0)
-body-errors gs (gate h ∷ ds) g e (inr d) = body-errors gs ds g (nil-parts (bodyErrors gs (bodyScope h) (h .body)) (defErrors gs ds) e .1) d
+    subst (λ (k : Gate). bodyErrors (bodyScope gs k) (k .body) ≡ []) (sym q) (nil-parts (bodyErrors (bodyScope gs h) (h .body)) (defErrors gs ds) e .0)
+body-errors gs (gate h ∷ ds) g e (inr d) = body-errors gs ds g (nil-parts (bodyErrors (bodyScope gs h) (h .body)) (defErrors gs ds) e .1) d
 body-errors gs (top s ∷ ds) g e d = body-errors gs ds g e d
 
 -- every statement of the body passes
 abbrev pub passBody : List Gate → Gate → Option (List Stmt) → Bool
 passBody gs g none = true
-passBody gs g (some ss) = passAll gs (bodyScope g) ss
+passBody gs g (some ss) = passAll (bodyScope gs g) ss
 
-pass-all : (gs : List Gate) (C : Scope) (ss : List Stmt) → stmtsErrors gs C ss ≡ [] → T (passAll gs C ss)
-pass-all gs C ss e = subst T (stmts-clear gs C ss) (nil-clear (stmtsErrors gs C ss) e)
+pass-all : (C : Scope) (ss : List Stmt) → stmtsErrors C ss ≡ [] → T (passAll C ss)
+pass-all C ss e = subst T (stmts-clear C ss) (nil-clear (stmtsErrors C ss) e)
 
-pass-body : (gs : List Gate) (g : Gate) (b : Option (List Stmt)) → bodyErrors gs (bodyScope g) b ≡ [] → T (passBody gs g b)
+pass-body : (gs : List Gate) (g : Gate) (b : Option (List Stmt)) → bodyErrors (bodyScope gs g) b ≡ [] → T (passBody gs g b)
 pass-body gs g none e = tt
-pass-body gs g (some ss) e = pass-all gs (bodyScope g) ss e
+pass-body gs g (some ss) e = pass-all (bodyScope gs g) ss e
 
 -- ---- a program whose errors, recursion aside, are none
 
 pub record Sound (p : Program) : Type 0 where
   pub headers : declErrors [] (p .decls) ≡ []
   pub rows : Each (λ r. 0 < r .size) (registers (p .decls))
-  pub main : T (passAll (gatesOf p) (topScope (p .decls)) (tops (p .decls)))
+  pub main : T (passAll (topScope (gatesOf p) (p .decls)) (tops (p .decls)))
   pub bodies : (g : ℕ) → g < length (gatesOf p) → T (passBody (gatesOf p) (gateAt (gatesOf p) g) (gateAt (gatesOf p) g .body))
 
 pub sound : (p : Program) → localErrors p ≡ [] → Sound p
@@ -85,13 +85,14 @@ unfolding localErrors
 sound p e =
     let gs : List Gate = gatesOf p in
     let ds : List Decl = p .decls in
-    let a = nil-parts (declErrors [] ds) (regErrors [] ds ++ (topErrors gs (topScope ds) ds ++ defErrors gs ds)) e in
-    let b = nil-parts (regErrors [] ds) (topErrors gs (topScope ds) ds ++ defErrors gs ds) (a .1) in
-    let c = nil-parts (topErrors gs (topScope ds) ds) (defErrors gs ds) (b .1) in
+    let C : Scope = topScope gs ds in
+    let a = nil-parts (declErrors [] ds) (regErrors [] ds ++ (topErrors C ds ++ defErrors gs ds)) e in
+    let b = nil-parts (regErrors [] ds) (topErrors C ds ++ defErrors gs ds) (a .1) in
+    let c = nil-parts (topErrors C ds) (defErrors gs ds) (b .1) in
     record {
       headers = a .0;
       rows = registers-some [] ds (b .0);
-      main = pass-all gs (topScope ds) (tops ds) (sym (top-errors gs (topScope ds) ds) ∙ c .0);
+      main = pass-all C (tops ds) (sym (top-errors C ds) ∙ c .0);
       bodies = λ g h. pass-body gs (gateAt gs g) (gateAt gs g .body) (body-errors gs ds (gateAt gs g) (c .1) (gate-declared p g h));
     }
 

@@ -9,15 +9,17 @@ use native.Mathlib.Omega.{arith}
 use lib.Dec.{T, ltb, leb, leb·suc-suc, eqb, eqb→eq, eqb-refl, leb→le, le→leb, ltb→lt, lt→ltb, not-T, T-not}
 use lib.ListN.{length}
 use Rattle.rules.specs.declared.Operand.{Operand}
-use Rattle.rules.specs.declared.Reg.{Reg}
+use Rattle.rules.specs.declared.FoundGate.{FoundGate}
+use Rattle.rules.specs.declared.FoundGate.the-variants.{Known, Unknown}
+use Rattle.rules.specs.declared.Match.{Match}
 use Rattle.rules.specs.declared.Found.{Found}
 use Rattle.rules.specs.declared.Found.the-variants.{Row, Nothing}
 use Rattle.rules.specs.Basics.{pick}
-use Rattle.rules.specs.Syntax.{Expr, pi, real, int, var, two, one, Named, Stmt, u, cx, measure, reset, barrier, call, if, missing, Gate}
+use Rattle.rules.specs.Syntax.{Expr, pi, real, int, var, two, one, Stmt, u, cx, measure, reset, barrier, call, if, missing}
 use Rattle.rules.specs.Errors.{Error}
-use Rattle.rules.specs.Checking.{gateAt, numberOf, isGate, latest, Scope, isParam, Asked, quantum, classic, Sized, size, bad, foundSize, assertReg, sizedErrors, operandErrors, Match, unfixed, fixed, differs, matchErrors, exprErrors, exprsErrors, compareErrors, arityErrors, matched, stmtErrors, stmtsErrors}
-use Rattle.rules.specs.Run.{sizeOnly, andSizes, sizes, common, paired, known, allKnown, callable}
-use Rattle.theorems.specs.Search.{T-left, T-right, T-and, and-T}
+use Rattle.rules.specs.Checking.{Scope, Asked, quantum, classic, Sized, size, bad, foundSize, assertReg, sizedErrors, operandErrors, unfixed, fixed, differs, matchErrors, exprErrors, exprsErrors, compareErrors, arityErrors, matched, stmtErrors, stmtsErrors}
+use Rattle.rules.specs.Run.{sizeOnly, andSizes, sizes, common, paired, known, allKnown}
+use Rattle.theorems.specs.Search.{T-left, T-right, T-and}
 
 -- ---- tests and lists
 
@@ -72,9 +74,9 @@ row-same true true false n d e f g = refl
 row-same true false c n d e f g = refl
 row-same false b c n d e f g = refl
 
-size-same : (rs : List Reg) (stmt : ℕ) (q : Asked) → sizeOnly (assertReg rs stmt q) ≡ sizeOnly (assertReg rs 0 q)
+size-same : (find : ℕ → Found) (stmt : ℕ) (q : Asked) → sizeOnly (assertReg find stmt q) ≡ sizeOnly (assertReg find 0 q)
 unfolding assertReg
-size-same rs stmt q = found (latest rs (q .operand .name))
+size-same find stmt q = found (find (q .operand .name))
   where
     found : (f : Found) → sizeOnly (foundSize f stmt q) ≡ sizeOnly (foundSize f 0 q)
     found Nothing = refl
@@ -106,8 +108,8 @@ pub sizes-nil : (C : Scope) (ns : List ℕ) → sizes C [] ≡ some ns → ns �
 unfolding sizes
 sizes-nil C ns e = cc
 
-sized-clear : (rs : List Reg) (stmt : ℕ) (q : Asked) → clear (sizedErrors (assertReg rs stmt q)) ≡ is (sizeOnly (assertReg rs 0 q))
-sized-clear rs stmt q = go (assertReg rs stmt q) ∙ ap is (size-same rs stmt q)
+sized-clear : (find : ℕ → Found) (stmt : ℕ) (q : Asked) → clear (sizedErrors (assertReg find stmt q)) ≡ is (sizeOnly (assertReg find 0 q))
+sized-clear find stmt q = go (assertReg find stmt q) ∙ ap is (size-same find stmt q)
   where
     go : (z : Sized) → clear (sizedErrors z) ≡ is (sizeOnly z)
     go (size n) = refl
@@ -208,69 +210,60 @@ one-pairs C q = go (sizeOnly (assertReg (C .regs) 0 q))
 
 -- ---- expressions, comparisons, counts
 
-expr-clear : (ps : List Named) (stmt : ℕ) (e : Expr) → clear (exprErrors ps stmt e) ≡ known ps e
+expr-clear : (param : ℕ → Bool) (stmt : ℕ) (e : Expr) → clear (exprErrors param stmt e) ≡ known param e
 unfolding exprErrors known
-expr-clear ps stmt (pi sp) = refl
-expr-clear ps stmt (real sp v) = refl
-expr-clear ps stmt (int sp v) = refl
-expr-clear ps stmt (var sp x) = clear-unless (isParam ps x) _
-expr-clear ps stmt (two o sp x y) =
-    clear-append (exprErrors ps stmt x) (exprErrors ps stmt y) ∙ ap₂ (λ (a b : Bool). a && b) (expr-clear ps stmt x) (expr-clear ps stmt y)
-expr-clear ps stmt (one o sp x) = expr-clear ps stmt x
+expr-clear param stmt (pi sp) = refl
+expr-clear param stmt (real sp v) = refl
+expr-clear param stmt (int sp v) = refl
+expr-clear param stmt (var sp x) = clear-unless (param x) _
+expr-clear param stmt (two o sp x y) =
+    clear-append (exprErrors param stmt x) (exprErrors param stmt y) ∙ ap₂ (λ (a b : Bool). a && b) (expr-clear param stmt x) (expr-clear param stmt y)
+expr-clear param stmt (one o sp x) = expr-clear param stmt x
 
-exprs-clear : (ps : List Named) (stmt : ℕ) (es : List Expr) → clear (exprsErrors ps stmt es) ≡ allKnown ps es
+exprs-clear : (param : ℕ → Bool) (stmt : ℕ) (es : List Expr) → clear (exprsErrors param stmt es) ≡ allKnown param es
 unfolding exprsErrors allKnown
-exprs-clear ps stmt [] = refl
-exprs-clear ps stmt (e ∷ es) =
-    clear-append (exprErrors ps stmt e) (exprsErrors ps stmt es) ∙ ap₂ (λ (a b : Bool). a && b) (expr-clear ps stmt e) (exprs-clear ps stmt es)
+exprs-clear param stmt [] = refl
+exprs-clear param stmt (e ∷ es) =
+    clear-append (exprErrors param stmt e) (exprsErrors param stmt es) ∙ ap₂ (λ (a b : Bool). a && b) (expr-clear param stmt e) (exprs-clear param stmt es)
 
 -- the operand has a size, and the value fits it
 abbrev pub fits : ℕ → Option ℕ → Bool
 fits v none = false
 fits v (some w) = ltb v (2 ^ w)
 
-arities-clear : (b k l : Bool) (d e f : Error) → clear (pick b (pick k [] (d ∷ []) ++ pick l [] (e ∷ [])) (f ∷ [])) ≡ (b && (k && l))
-arities-clear true true l d e f = clear-unless l e
-arities-clear true false l d e f = refl
-arities-clear false k l d e f = refl
+-- a gate with these counts is known
+abbrev pub callable : FoundGate → (params args : ℕ) → Bool
+callable Unknown params args = false
+callable (Known h) params args = eqb (h .params) params && eqb (h .args) args
 
-arity-clear : (gs : List Gate) (stmt sp x params args : ℕ) → clear (arityErrors gs stmt sp x params args) ≡ callable gs x params args
-unfolding arityErrors callable
-arity-clear gs stmt sp x params args =
-    let g = gateAt gs (numberOf gs x) in
-    arities-clear (isGate gs x) (eqb (length (g .params)) params) (eqb (length (g .args)) args) _ _ _
-
--- what may be called is a gate, with as many arguments
-pub callable-parts : (gs : List Gate) (x params args : ℕ) → T (callable gs x params args)
-    → T (isGate gs x) × (length (gateAt gs (numberOf gs x) .args) ≡ args)
-unfolding callable
-callable-parts gs x params args t =
-    let g = gateAt gs (numberOf gs x) in
-    let a = and-T (isGate gs x) (eqb (length (g .params)) params && eqb (length (g .args)) args) t in
-    (a .0, eqb→eq (length (g .args)) args (and-T (eqb (length (g .params)) params) (eqb (length (g .args)) args) (a .1) .1))
+arity-clear : (found : FoundGate) (stmt sp x params args : ℕ) → clear (arityErrors found stmt sp x params args) ≡ callable found params args
+arity-clear Unknown stmt sp x params args = refl
+arity-clear (Known h) stmt sp x params args =
+    clear-append (pick (eqb (h .params) params) [] (_ ∷ [])) (pick (eqb (h .args) args) [] (_ ∷ []))
+    ∙ ap₂ (λ (a b : Bool). a && b) (clear-unless (eqb (h .params) params) _) (clear-unless (eqb (h .args) args) _)
 
 -- ---- statements
 
 -- the tests that the run of a statement makes, its calls aside
-unfoldable pub passes : List Gate → Scope → Stmt → Bool
-passes gs C (u sp o x y z) = pairing (sizes C (quantum o ∷ [])) && allKnown (C .params) (x ∷ y ∷ z ∷ [])
-passes gs C (cx sp x y) = pairing (sizes C (quantum x ∷ quantum y ∷ []))
-passes gs C (measure sp x y) = pairing (sizes C (quantum x ∷ classic y ∷ []))
-passes gs C (reset sp o) = pairing (sizes C (quantum o ∷ []))
-passes gs C (barrier sp os) = is (sizes C (map quantum os))
-passes gs C (call sp ns x es os) = callable gs x (length es) (length os) && (pairing (sizes C (map quantum os)) && allKnown (C .params) es)
-passes gs C (if sp o vs v s) = fits v (sizeOnly (assertReg (C .regs) 0 (classic o))) && passes gs C s
-passes gs C missing = true
+unfoldable pub passes : Scope → Stmt → Bool
+passes C (u sp o x y z) = pairing (sizes C (quantum o ∷ [])) && allKnown (C .params) (x ∷ y ∷ z ∷ [])
+passes C (cx sp x y) = pairing (sizes C (quantum x ∷ quantum y ∷ []))
+passes C (measure sp x y) = pairing (sizes C (quantum x ∷ classic y ∷ []))
+passes C (reset sp o) = pairing (sizes C (quantum o ∷ []))
+passes C (barrier sp os) = is (sizes C (map quantum os))
+passes C (call sp ns x es os) = callable (C .gates x) (length es) (length os) && (pairing (sizes C (map quantum os)) && allKnown (C .params) es)
+passes C (if sp o vs v s) = fits v (sizeOnly (assertReg (C .regs) 0 (classic o))) && passes C s
+passes C missing = true
 
-unfoldable pub passAll : List Gate → Scope → List Stmt → Bool
-passAll gs C [] = true
-passAll gs C (s ∷ ss) = passes gs C s && passAll gs C ss
+unfoldable pub passAll : Scope → List Stmt → Bool
+passAll C [] = true
+passAll C (s ∷ ss) = passes C s && passAll C ss
 
-if-clear : (rs : List Reg) (sp vs v : ℕ) (o : Operand) (es : List Error)
-    → clear (operandErrors rs sp (classic o ∷ []) ++ (es ++ compareErrors (assertReg rs sp (classic o)) sp o vs v))
-    ≡ (fits v (sizeOnly (assertReg rs 0 (classic o))) && clear es)
+if-clear : (find : ℕ → Found) (sp vs v : ℕ) (o : Operand) (es : List Error)
+    → clear (operandErrors find sp (classic o ∷ []) ++ (es ++ compareErrors (assertReg find sp (classic o)) sp o vs v))
+    ≡ (fits v (sizeOnly (assertReg find 0 (classic o))) && clear es)
 unfolding operandErrors compareErrors
-if-clear rs sp vs v o es = go (assertReg rs sp (classic o)) ∙ ap (λ (z : Option ℕ). fits v z && clear es) (size-same rs sp (classic o))
+if-clear find sp vs v o es = go (assertReg find sp (classic o)) ∙ ap (λ (z : Option ℕ). fits v z && clear es) (size-same find sp (classic o))
   where
     go : (z : Sized) → clear ((sizedErrors z ++ []) ++ (es ++ compareErrors z sp o vs v)) ≡ (fits v (sizeOnly z) && clear es)
     go (bad e) = refl
@@ -278,26 +271,26 @@ if-clear rs sp vs v o es = go (assertReg rs sp (classic o)) ∙ ap (λ (z : Opti
         clear-append es (compareErrors (size n) sp o vs v) ∙ and-comm (clear es) (clear (compareErrors (size n) sp o vs v))
         ∙ ap (λ (b : Bool). b && clear es) (clear-where (leb (2 ^ n) v) _ ∙ not-reached (2 ^ n) v)
 
-pub stmt-clear : (gs : List Gate) (C : Scope) (s : Stmt) → clear (stmtErrors gs C s) ≡ passes gs C s
+pub stmt-clear : (C : Scope) (s : Stmt) → clear (stmtErrors C s) ≡ passes C s
 unfolding stmtErrors passes
-stmt-clear gs C (u sp o x y z) =
+stmt-clear C (u sp o x y z) =
     clear-append (operandErrors (C .regs) sp (quantum o ∷ [])) (exprsErrors (C .params) sp (x ∷ y ∷ z ∷ []))
     ∙ ap₂ (λ (a b : Bool). a && b) (operands-clear C sp (quantum o ∷ []) ∙ one-pairs C (quantum o)) (exprs-clear (C .params) sp (x ∷ y ∷ z ∷ []))
-stmt-clear gs C (cx sp x y) = matched-clear C sp (quantum x ∷ quantum y ∷ [])
-stmt-clear gs C (measure sp x y) = matched-clear C sp (quantum x ∷ classic y ∷ [])
-stmt-clear gs C (reset sp o) = operands-clear C sp (quantum o ∷ []) ∙ one-pairs C (quantum o)
-stmt-clear gs C (barrier sp os) = operands-clear C sp (map quantum os)
-stmt-clear gs C (call sp ns x es os) =
-    clear-append (arityErrors gs sp ns x (length es) (length os)) (matched (C .regs) sp (map quantum os) ++ exprsErrors (C .params) sp es)
-    ∙ ap₂ (λ (a b : Bool). a && b) (arity-clear gs sp ns x (length es) (length os))
+stmt-clear C (cx sp x y) = matched-clear C sp (quantum x ∷ quantum y ∷ [])
+stmt-clear C (measure sp x y) = matched-clear C sp (quantum x ∷ classic y ∷ [])
+stmt-clear C (reset sp o) = operands-clear C sp (quantum o ∷ []) ∙ one-pairs C (quantum o)
+stmt-clear C (barrier sp os) = operands-clear C sp (map quantum os)
+stmt-clear C (call sp ns x es os) =
+    clear-append (arityErrors (C .gates x) sp ns x (length es) (length os)) (matched (C .regs) sp (map quantum os) ++ exprsErrors (C .params) sp es)
+    ∙ ap₂ (λ (a b : Bool). a && b) (arity-clear (C .gates x) sp ns x (length es) (length os))
     (clear-append (matched (C .regs) sp (map quantum os)) (exprsErrors (C .params) sp es)
     ∙ ap₂ (λ (a b : Bool). a && b) (matched-clear C sp (map quantum os)) (exprs-clear (C .params) sp es))
-stmt-clear gs C (if sp o vs v s) =
-    if-clear (C .regs) sp vs v o (stmtErrors gs C s) ∙ ap (λ (b : Bool). fits v (sizeOnly (assertReg (C .regs) 0 (classic o))) && b) (stmt-clear gs C s)
-stmt-clear gs C missing = refl
+stmt-clear C (if sp o vs v s) =
+    if-clear (C .regs) sp vs v o (stmtErrors C s) ∙ ap (λ (b : Bool). fits v (sizeOnly (assertReg (C .regs) 0 (classic o))) && b) (stmt-clear C s)
+stmt-clear C missing = refl
 
-pub stmts-clear : (gs : List Gate) (C : Scope) (ss : List Stmt) → clear (stmtsErrors gs C ss) ≡ passAll gs C ss
+pub stmts-clear : (C : Scope) (ss : List Stmt) → clear (stmtsErrors C ss) ≡ passAll C ss
 unfolding stmtsErrors passAll
-stmts-clear gs C [] = refl
-stmts-clear gs C (s ∷ ss) =
-    clear-append (stmtErrors gs C s) (stmtsErrors gs C ss) ∙ ap₂ (λ (a b : Bool). a && b) (stmt-clear gs C s) (stmts-clear gs C ss)
+stmts-clear C [] = refl
+stmts-clear C (s ∷ ss) =
+    clear-append (stmtErrors C s) (stmtsErrors C ss) ∙ ap₂ (λ (a b : Bool). a && b) (stmt-clear C s) (stmts-clear C ss)

@@ -4,8 +4,10 @@ use mathlib.Core.Option.{Option, none, some}
 use mathlib.Core.List.{List, [], _∷_, map}
 use Prim.Native.Nat.{ℕ, zero, suc, _+_, _*_, _<_, min}
 use lib.ListN.{length, getD, set}
+use Rattle.rules.specs.declared.FoundGate.{FoundGate}
+use Rattle.rules.specs.declared.FoundGate.the-variants.{Known, Unknown}
 use Rattle.rules.specs.Syntax.{Stmt, u, cx, measure, reset, barrier, call, if, missing, Gate, Program}
-use Rattle.rules.specs.Checking.{gateAt, numberOf, gatesOf, Scope, topScope, bodyScope, quantum, classic}
+use Rattle.rules.specs.Checking.{gateAt, gatesOf, Scope, topScope, bodyScope, quantum, classic}
 use Rattle.rules.specs.Run.{sizes, common, tops}
 
 -- ---- the count, by a table of the gates' counts
@@ -24,32 +26,37 @@ abbrev pub barrierCount : Option (List ℕ) → ℕ
 barrierCount none = 0
 barrierCount (some ns) = sum ns + 1
 
--- 01: "39 IF .., then the governed entries, then 40 empty"; "A call to a gate with a body runs the body once for each j."
-unfoldable pub stmtCount : List Gate → Scope → (t : ℕ → ℕ) → Stmt → ℕ
-stmtCount gs C t (u sp o x y z) = times (sizes C (quantum o ∷ []))
-stmtCount gs C t (cx sp x y) = times (sizes C (quantum x ∷ quantum y ∷ []))
-stmtCount gs C t (measure sp x y) = times (sizes C (quantum x ∷ classic y ∷ []))
-stmtCount gs C t (reset sp o) = times (sizes C (quantum o ∷ []))
-stmtCount gs C t (barrier sp os) = barrierCount (sizes C (map quantum os))
-stmtCount gs C t (call sp ns x es os) = times (sizes C (map quantum os)) * t (numberOf gs x)
-stmtCount gs C t (if sp o vs v s) = stmtCount gs C t s + 2
-stmtCount gs C t missing = 0
+-- one call of what is known of a name
+abbrev pub callCount : FoundGate → (t : ℕ → ℕ) → ℕ
+callCount Unknown t = 0
+callCount (Known h) t = t (h .number)
 
-unfoldable pub stmtsCount : List Gate → Scope → (t : ℕ → ℕ) → List Stmt → ℕ
-stmtsCount gs C t [] = 0
-stmtsCount gs C t (s ∷ ss) = stmtCount gs C t s + stmtsCount gs C t ss
+-- 01: "39 IF .., then the governed entries, then 40 empty"; "A call to a gate with a body runs the body once for each j."
+unfoldable pub stmtCount : Scope → (t : ℕ → ℕ) → Stmt → ℕ
+stmtCount C t (u sp o x y z) = times (sizes C (quantum o ∷ []))
+stmtCount C t (cx sp x y) = times (sizes C (quantum x ∷ quantum y ∷ []))
+stmtCount C t (measure sp x y) = times (sizes C (quantum x ∷ classic y ∷ []))
+stmtCount C t (reset sp o) = times (sizes C (quantum o ∷ []))
+stmtCount C t (barrier sp os) = barrierCount (sizes C (map quantum os))
+stmtCount C t (call sp ns x es os) = times (sizes C (map quantum os)) * callCount (C .gates x) t
+stmtCount C t (if sp o vs v s) = stmtCount C t s + 2
+stmtCount C t missing = 0
+
+unfoldable pub stmtsCount : Scope → (t : ℕ → ℕ) → List Stmt → ℕ
+stmtsCount C t [] = 0
+stmtsCount C t (s ∷ ss) = stmtCount C t s + stmtsCount C t ss
 
 -- 01: "38 opaque call: name, qubits"
 abbrev pub bodyCount : List Gate → (t : ℕ → ℕ) → Gate → Option (List Stmt) → ℕ
 bodyCount gs t g none = 1
-bodyCount gs t g (some ss) = stmtsCount gs (bodyScope g) t ss
+bodyCount gs t g (some ss) = stmtsCount (bodyScope gs g) t ss
 
 -- one run of gate g
 unfoldable pub gateCount : List Gate → (t : ℕ → ℕ) → (g : ℕ) → ℕ
 gateCount gs t g = bodyCount gs t (gateAt gs g) (gateAt gs g .body)
 
 unfoldable pub programCount : Program → (t : ℕ → ℕ) → ℕ
-programCount p t = stmtsCount (gatesOf p) (topScope (p .decls)) t (tops (p .decls))
+programCount p t = stmtsCount (topScope (gatesOf p) (p .decls)) t (tops (p .decls))
 
 -- ---- tables
 

@@ -7,22 +7,24 @@ use Prim.Native.Nat.{ℕ, zero, suc, _+_, _*_, _≤_, _<_, min}
 use native.Mathlib.Nat.{zero-mul, mul-one, not-suc-le-zero}
 use native.Mathlib.Decide.{decLe, decLt}
 use native.Mathlib.Omega.{arith}
-use lib.Dec.{T, eqb, eqb-refl, ltb, ltb→lt, lt→ltb}
+use lib.Dec.{T, eqb-refl, ltb, ltb→lt, lt→ltb}
 use lib.ListN.{length, set, drop, length-append, length-set, drop-of-length-le}
 use lib.Seq.{drop-cons, getD-set-same, getD-set-other}
+use Rattle.rules.specs.declared.FoundGate.{FoundGate}
+use Rattle.rules.specs.declared.FoundGate.the-variants.{Known, Unknown}
 use Rattle.rules.specs.Syntax.{Stmt, u, cx, measure, reset, barrier, call, if, missing, Gate, Program}
-use Rattle.rules.specs.Checking.{gateAt, numberOf, isGate, gatesOf, Asked, quantum, classic, Scope, topScope, bodyScope, assertReg}
+use Rattle.rules.specs.Checking.{gateAt, gatesOf, Asked, quantum, classic, header, Scope, topScope, bodyScope, assertReg}
 use Rattle.rules.specs.Calls.{errors}
 use Rattle.rules.specs.Order.{orderOf}
-use Rattle.rules.specs.Run.{Entry, barrierEndE, opaqueE, ifEndE, Out, done, turns, Place, startOf, sizeOnly, sizes, common, lanes, spread, allKnown, qubitsFrom, barrierQubits, callable, run, runs, bodyPlace, runBody, runGate, topPlace, tops, runAt, runOf}
-use Rattle.theorems.specs.Words.{NoWalk, CalleesFirst, callsIn, called, calledIn, calledBy}
-use Rattle.theorems.specs.Search.{and-T, T-and, T-left, T-right}
+use Rattle.rules.specs.Run.{Entry, barrierEndE, opaqueE, ifEndE, Out, done, turns, Place, startOf, sizeOnly, sizes, common, lanes, spread, allKnown, qubitsFrom, barrierQubits, run, runs, bodyPlace, runBody, runGate, topPlace, tops, runAt, runOf}
+use Rattle.theorems.specs.Words.{NoWalk, CalleesFirst, callsIn, numbered, called, calledIn, calledBy}
+use Rattle.theorems.specs.Search.{and-T, T-left, T-right}
 use Rattle.theorems.specs.Walks.{no-long}
 use Rattle.theorems.specs.Callees.{calledIn-lt, calls-within, body-calls}
-use Rattle.theorems.specs.Agree.{bool-same, sizes-cons, sizes-nil, pairing, fits, passes, passAll, callable-parts}
-use Rattle.theorems.specs.Runs.{stuck-done, both-done, guard-done, with-done, spread-done, if-done}
+use Rattle.theorems.specs.Agree.{bool-same, sizes-cons, sizes-nil, pairing, fits, passes, passAll, callable}
+use Rattle.theorems.specs.Runs.{stuck-done, both-done, guard-done, with-done, calling-done, spread-done, if-done}
 use Rattle.theorems.specs.Admitted.{Sound, passBody, admitted, order-admitted}
-use Rattle.theorems.specs.Count.{times, sum, stmtCount, stmtsCount, bodyCount, gateCount, programCount, counts, Solves, at, fill}
+use Rattle.theorems.specs.Count.{times, sum, callCount, stmtCount, stmtsCount, bodyCount, gateCount, programCount, counts, Solves, at, fill}
 
 -- ---- the length of a run that ended
 
@@ -63,8 +65,8 @@ barrier-length P (q ∷ qs) ns e =
     (length-append (qubitsFrom (s .head) (startOf P (q .operand))) (barrierQubits P (s .tail) qs)
     ∙ ap₂ (λ (a b : ℕ). a + b) (qubits-length (s .head) (startOf P (q .operand))) (barrier-length P qs (s .tail) (s .rest)))
 
-module _ (gs : List Gate) (f : ℕ → List ℕ → Out) (t : ℕ → ℕ) (h : (c : ℕ) (qs : List ℕ) (es : List Entry) → f c qs ≡ done es → length es ≡ t c) where
-  run-length : (P : Place) (s : Stmt) (es : List Entry) → run gs f P s ≡ done es → length es ≡ stmtCount gs (P .scope) t s
+module _ (f : ℕ → List ℕ → Out) (t : ℕ → ℕ) (h : (c : ℕ) (qs : List ℕ) (es : List Entry) → f c qs ≡ done es → length es ≡ t c) where
+  run-length : (P : Place) (s : Stmt) (es : List Entry) → run f P s ≡ done es → length es ≡ stmtCount (P .scope) t s
   unfolding run stmtCount
   run-length P (u sp o x y z) es e =
       ones-length P (quantum o ∷ []) _ es (guard-done (allKnown (P .scope .params) (x ∷ y ∷ z ∷ [])) _ es e .1)
@@ -77,18 +79,19 @@ module _ (gs : List Gate) (f : ℕ → List ℕ → Out) (t : ℕ → ℕ) (h : 
       let n = barrier-length P (map quantum os) (w .0) (w .1) in
       rw (w .1) (done-length (b ++ (barrierEndE ∷ [])) es (w .2) ∙ length-append b (barrierEndE ∷ []) ∙ ap (λ (k : ℕ). k + 1) n)
   run-length P (call sp ns x xs os) es e =
-      let g = guard-done (callable gs x (length xs) (length os) && allKnown (P .scope .params) xs) _ es e in
-      spread-length P (map quantum os) (t (numberOf gs x)) (f (numberOf gs x)) es (g .1) (h (numberOf gs x))
+      let c = calling-done (P .scope .gates x) (length xs) (length os) _ es e in
+      let g = guard-done (allKnown (P .scope .params) xs) _ es (c .ran) in
+      rw (c .known) (spread-length P (map quantum os) (t (c .header .number)) (f (c .header .number)) es (g .1) (h (c .header .number)))
   run-length P (if sp o vs v s) es e =
-      let k = if-done P o v (run gs f P s) es e in
+      let k = if-done P o v (run f P s) es e in
       omega (arith, ap length (k .all), length-append (k .inner) (ifEndE ∷ []), run-length P s (k .inner) (k .ran))
   run-length P missing es e = done-length [] es e
 
-  runs-length : (P : Place) (ss : List Stmt) (es : List Entry) → runs gs f P ss ≡ done es → length es ≡ stmtsCount gs (P .scope) t ss
+  runs-length : (P : Place) (ss : List Stmt) (es : List Entry) → runs f P ss ≡ done es → length es ≡ stmtsCount (P .scope) t ss
   unfolding runs stmtsCount
   runs-length P [] es e = done-length [] es e
   runs-length P (s ∷ ss) es e =
-      let b = both-done (run gs f P s) (runs gs f P ss) es e in
+      let b = both-done (run f P s) (runs f P ss) es e in
       ap length (b .all) ∙ length-append (b .left) (b .right)
       ∙ ap₂ (λ (x y : ℕ). x + y) (run-length P s (b .left) (b .one)) (runs-length P ss (b .right) (b .two))
 
@@ -101,13 +104,13 @@ gate-length gs (suc d) g qs es e = go (gateAt gs g .body) (gate-length gs d) e
     go : (b : Option (List Stmt)) → ((c : ℕ) (rs : List ℕ) (fs : List Entry) → runGate gs d c rs ≡ done fs → length fs ≡ counts gs d c)
         → runBody gs (runGate gs d) (gateAt gs g) b qs ≡ done es → length es ≡ bodyCount gs (counts gs d) (gateAt gs g) b
     go none ih e = done-length (opaqueE (gateAt gs g .name) qs ∷ []) es e
-    go (some ss) ih e = runs-length gs (runGate gs d) (counts gs d) ih (bodyPlace (gateAt gs g) qs) ss es e
+    go (some ss) ih e = runs-length (runGate gs d) (counts gs d) ih (bodyPlace gs (gateAt gs g) qs) ss es e
 
 pub program-length : (p : Program) (d : ℕ) (es : List Entry) → runAt d p ≡ done es → length es ≡ programCount p (counts (gatesOf p) d)
 unfolding runAt programCount topPlace
 program-length p d es e =
     let gs : List Gate = gatesOf p in
-    runs-length gs (runGate gs d) (counts gs d) (gate-length gs d) (topPlace (p .decls)) (tops (p .decls)) es e
+    runs-length (runGate gs d) (counts gs d) (gate-length gs d) (topPlace gs (p .decls)) (tops (p .decls)) es e
 
 -- ---- no further than to a cap: the count looks at the table for the gates called alone, and there no further than to the cap
 
@@ -118,12 +121,17 @@ min-mul cap (suc k) x = elim (decLe x cap) [
   | no h ↦ let e : min cap x ≡ cap = omega arith in rw e (omega arith)
 ]
 
-module _ (cap : ℕ) (gs : List Gate) (t v : ℕ → ℕ) where
+module _ (cap : ℕ) (t v : ℕ → ℕ) where
   -- the two tables agree on the gates that the test names
   abbrev Agrees : (ℕ → Bool) → Type 0
   Agrees b = (c : ℕ) → T (b c) → min cap (t c) ≡ min cap (v c)
 
-  stmt-capped : (C : Scope) (s : Stmt) → T (passes gs C s) → Agrees (called gs s) → min cap (stmtCount gs C t s) ≡ min cap (stmtCount gs C v s)
+  call-capped : (found : FoundGate) (params args : ℕ) → T (callable found params args) → Agrees (numbered found)
+      → min cap (callCount found t) ≡ min cap (callCount found v)
+  call-capped Unknown params args k h = absurd k
+  call-capped (Known g) params args k h = h (g .number) (eqb-refl (g .number))
+
+  stmt-capped : (C : Scope) (s : Stmt) → T (passes C s) → Agrees (called (C .gates) s) → min cap (stmtCount C t s) ≡ min cap (stmtCount C v s)
   unfolding stmtCount passes called
   stmt-capped C (u sp o x y z) k h = refl
   stmt-capped C (cx sp x y) k h = refl
@@ -132,28 +140,28 @@ module _ (cap : ℕ) (gs : List Gate) (t v : ℕ → ℕ) where
   stmt-capped C (barrier sp os) k h = refl
   stmt-capped C (call sp ns x es os) k h =
       let n : ℕ = times (sizes C (map quantum os)) in
-      let c : ℕ = numberOf gs x in
-      let a = and-T (callable gs x (length es) (length os)) (pairing (sizes C (map quantum os)) && allKnown (C .params) es) k in
-      let b = T-and (isGate gs x) (eqb c c) (callable-parts gs x (length es) (length os) (a .0) .0) (eqb-refl c) in
-      min-mul cap n (t c) ∙ ap (λ (z : ℕ). min cap (n * z)) (h c b) ∙ sym (min-mul cap n (v c))
+      let a = and-T (callable (C .gates x) (length es) (length os)) (pairing (sizes C (map quantum os)) && allKnown (C .params) es) k in
+      let b = call-capped (C .gates x) (length es) (length os) (a .0) h in
+      min-mul cap n (callCount (C .gates x) t) ∙ ap (λ (z : ℕ). min cap (n * z)) b ∙ sym (min-mul cap n (callCount (C .gates x) v))
   stmt-capped C (if sp o vs w s) k h =
-      omega (arith, stmt-capped C s (and-T (fits w (sizeOnly (assertReg (C .regs) 0 (classic o)))) (passes gs C s) k .1) h)
+      omega (arith, stmt-capped C s (and-T (fits w (sizeOnly (assertReg (C .regs) 0 (classic o)))) (passes C s) k .1) h)
   stmt-capped C missing k h = refl
 
-  stmts-capped : (C : Scope) (ss : List Stmt) → T (passAll gs C ss) → Agrees (calledIn gs ss)
-      → min cap (stmtsCount gs C t ss) ≡ min cap (stmtsCount gs C v ss)
+  stmts-capped : (C : Scope) (ss : List Stmt) → T (passAll C ss) → Agrees (calledIn (C .gates) ss)
+      → min cap (stmtsCount C t ss) ≡ min cap (stmtsCount C v ss)
   unfolding stmtsCount passAll calledIn
   stmts-capped C [] k h = refl
   stmts-capped C (s ∷ ss) k h =
-      let a = and-T (passes gs C s) (passAll gs C ss) k in
-      let x = stmt-capped C s (a .0) (λ c b. h c (T-left (called gs s c) (calledIn gs ss c) b)) in
-      let y = stmts-capped C ss (a .1) (λ c b. h c (T-right (called gs s c) (calledIn gs ss c) b)) in
+      let a = and-T (passes C s) (passAll C ss) k in
+      let x = stmt-capped C s (a .0) (λ c b. h c (T-left (called (C .gates) s c) (calledIn (C .gates) ss c) b)) in
+      let y = stmts-capped C ss (a .1) (λ c b. h c (T-right (called (C .gates) s c) (calledIn (C .gates) ss c) b)) in
       omega arith
 
-  body-capped : (g : Gate) (b : Option (List Stmt)) → T (passBody gs g b) → Agrees (calledBy gs b)
+  body-capped : (gs : List Gate) (g : Gate) (b : Option (List Stmt)) → T (passBody gs g b) → Agrees (calledBy (header gs) b)
       → min cap (bodyCount gs t g b) ≡ min cap (bodyCount gs v g b)
-  body-capped g none k h = refl
-  body-capped g (some ss) k h = stmts-capped (bodyScope g) ss k h
+  unfolding bodyScope
+  body-capped gs g none k h = refl
+  body-capped gs g (some ss) k h = stmts-capped (bodyScope gs g) ss k h
 
 module _ (p : Program) (S : Sound p) (cap : ℕ) where
   gate-capped : (t v : ℕ → ℕ) (g : ℕ) → g < length (gatesOf p) → ((c : ℕ) → T (callsIn p g c) → min cap (t c) ≡ min cap (v c))
@@ -161,7 +169,7 @@ module _ (p : Program) (S : Sound p) (cap : ℕ) where
   unfolding gateCount
   gate-capped t v g b h =
       let d : Gate = gateAt (gatesOf p) g in
-      body-capped cap (gatesOf p) t v d (d .body) (S .bodies g b) (λ c k. h c (body-calls p g c b k))
+      body-capped cap t v (gatesOf p) d (d .body) (S .bodies g b) (λ c k. h c (body-calls p g c b k))
 
   solved-counts : (t : ℕ → ℕ) → Solves cap p t → (d g : ℕ) → g < length (gatesOf p) → NoWalk (callsIn p) d g
       → min cap (t g) ≡ min cap (counts (gatesOf p) d g)
@@ -183,11 +191,11 @@ module _ (p : Program) (ok : errors p ≡ []) (cap : ℕ) where
   solved-once t v s w g b = solved t s g b ∙ sym (solved v w g b)
 
   pub solved-program : (t : ℕ → ℕ) → Solves cap p t → (es : List Entry) → runOf p ≡ done es → min cap (programCount p t) ≡ min cap (length es)
-  unfolding programCount runOf
+  unfolding programCount runOf topScope
   solved-program t s es e =
       let n : ℕ = length (gatesOf p) in
       let S = admitted p ok .0 in
-      stmts-capped cap (gatesOf p) t (counts (gatesOf p) n) (topScope (p .decls)) (tops (p .decls)) (S .main)
+      stmts-capped cap t (counts (gatesOf p) n) (topScope (gatesOf p) (p .decls)) (tops (p .decls)) (S .main)
       (λ c k. let b = calledIn-lt (gatesOf p) (tops (p .decls)) c k in solved-counts p S cap t s n c b (enough c b))
       ∙ ap (λ (x : ℕ). min cap x) (sym (program-length p n es e))
 

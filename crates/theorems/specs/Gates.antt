@@ -10,10 +10,10 @@ use native.Mathlib.Omega.{arith}
 use lib.Dec.{T, eqb, eqb→eq, eqb-refl, ltb→lt, lt→ltb}
 use lib.ListN.{length, length-append, List·getD-append}
 use lib.Seq.{getD-at}
+use Rattle.rules.specs.declared.FoundGate.the-variants.{Known, Unknown}
 use Rattle.rules.specs.Basics.{pick, first}
 use Rattle.rules.specs.Syntax.{Gate, Decl, include, reg, gate, top, Program}
-use Rattle.rules.specs.Errors.{Error}
-use Rattle.rules.specs.Checking.{noGate, gateAt, numberOf, isGate, entries, gatesOf, headerErrors, declErrors}
+use Rattle.rules.specs.Checking.{noGate, gateAt, numberOf, isGate, headerOf, header, entered, entries, gatesOf, headerErrors, declErrors}
 use Rattle.theorems.specs.Search.{nil-parts, first-true, first-hit}
 
 -- ---- the number of a name
@@ -48,9 +48,6 @@ Declares g (include sp x ∷ ds) = Declares g ds
 Declares g (reg c d o ∷ ds) = Declares g ds
 Declares g (gate h ∷ ds) = (g ≡ h) ⊎ Declares g ds
 Declares g (top s ∷ ds) = Declares g ds
-
-abbrev pub added : List Gate → Gate → List Gate
-added gs g = pick (isGate gs (g .name)) gs (gs ++ (g ∷ []))
 
 -- gs has grown to r by gates that D says yes to: those of gs stand where they stood, and names stay different
 record Grown (gs : List Gate) (D : Gate → Type 0) (r : List Gate) : Type 0 where
@@ -111,8 +108,9 @@ grown-snoc gs g fresh = record { longer = omega (arith, len); kept = old; new = 
       ]
     ]
 
-grown-added : (gs : List Gate) (g : Gate) → Grown gs (λ h. g ≡ h) (added gs g) × T (isGate (added gs g) (g .name))
-grown-added gs g = go (isGate gs (g .name)) refl
+grown-entered : (gs : List Gate) (g : Gate) → Grown gs (λ h. g ≡ h) (entered gs g) × T (isGate (entered gs g) (g .name))
+unfolding entered
+grown-entered gs g = go (isGate gs (g .name)) refl
   where
     go : (b : Bool) → isGate gs (g .name) ≡ b → Grown gs (λ h. g ≡ h) (pick b gs (gs ++ (g ∷ []))) × T (isGate (pick b gs (gs ++ (g ∷ []))) (g .name))
     go true e = (grown-not gs (λ h. g ≡ h), subst T (sym e) tt)
@@ -128,7 +126,7 @@ grown-entries gs [] = grown-not gs (λ g. ⊥)
 grown-entries gs (include sp x ∷ ds) = grown-entries gs ds
 grown-entries gs (reg c d o ∷ ds) = grown-entries gs ds
 grown-entries gs (gate g ∷ ds) =
-    grown-twice (grown-more (λ h e. inl (sym e)) (grown-added gs g .0)) (grown-more (λ h d. inr d) (grown-entries (added gs g) ds))
+    grown-twice (grown-more (λ h e. inl (sym e)) (grown-entered gs g .0)) (grown-more (λ h d. inr d) (grown-entries (entered gs g) ds))
 grown-entries gs (top s ∷ ds) = grown-entries gs ds
 
 pub declared-gate : (gs : List Gate) (ds : List Decl) (g : Gate) → Declares g ds → T (isGate (entries gs ds) (g .name))
@@ -137,18 +135,18 @@ declared-gate gs [] g d = absurd d
 declared-gate gs (include sp x ∷ ds) g d = declared-gate gs ds g d
 declared-gate gs (reg c e o ∷ ds) g d = declared-gate gs ds g d
 declared-gate gs (gate h ∷ ds) g (inl e) =
-    grown-keeps (grown-entries (added gs h) ds) (g .name) (subst (λ (k : Gate). T (isGate (added gs h) (k .name))) (sym e) (grown-added gs h .1))
-declared-gate gs (gate h ∷ ds) g (inr d) = declared-gate (added gs h) ds g d
+    grown-keeps (grown-entries (entered gs h) ds) (g .name) (subst (λ (k : Gate). T (isGate (entered gs h) (k .name))) (sym e) (grown-entered gs h .1))
+declared-gate gs (gate h ∷ ds) g (inr d) = declared-gate (entered gs h) ds g d
 declared-gate gs (top s ∷ ds) g d = declared-gate gs ds g d
 
 -- where no gate name is seen before, each declared gate is a first entry itself
-fresh-header : (gs : List Gate) (g : Gate) → headerErrors gs g ≡ [] → isGate gs (g .name) ≡ false
-unfolding headerErrors
-fresh-header gs g = go (isGate gs (g .name)) _ _
+fresh-header : (gs : List Gate) (g : Gate) → headerErrors (header gs (g .name)) g ≡ [] → entered gs g ≡ gs ++ (g ∷ [])
+unfolding header entered
+fresh-header gs g = go (isGate gs (g .name))
   where
-    go : (b : Bool) (e : Error) (es : List Error) → pick b (e ∷ []) es ≡ [] → b ≡ false
-    go true e es q = absurd (cons≢nil q)
-    go false e es q = refl
+    go : (b : Bool) → headerErrors (pick b (Known (headerOf gs (numberOf gs (g .name)))) Unknown) g ≡ [] → pick b gs (gs ++ (g ∷ [])) ≡ gs ++ (g ∷ [])
+    go true q = absurd (cons≢nil q)
+    go false q = refl
 
 pub own-entry : (gs : List Gate) (ds : List Decl) (g : Gate) → declErrors gs ds ≡ [] → Declares g ds
     → (i : ℕ) × (i < length (entries gs ds)) × (gateAt (entries gs ds) i ≡ g)
@@ -157,16 +155,16 @@ own-entry gs [] g e d = absurd d
 own-entry gs (include sp x ∷ ds) g e d = own-entry gs ds g e d
 own-entry gs (reg c f o ∷ ds) g e d = own-entry gs ds g e d
 own-entry gs (gate h ∷ ds) g e d =
-    let a = nil-parts (headerErrors gs h) (declErrors (added gs h) ds) e in
-    go (own-entry (added gs h) ds g (a .1)) (ap (λ (b : Bool). pick b gs (gs ++ (h ∷ []))) (fresh-header gs h (a .0))) d
+    let a = nil-parts (headerErrors (header gs (h .name)) h) (declErrors (entered gs h) ds) e in
+    go (own-entry (entered gs h) ds g (a .1)) (fresh-header gs h (a .0)) d
   where
-    go : (Declares g ds → (i : ℕ) × (i < length (entries (added gs h) ds)) × (gateAt (entries (added gs h) ds) i ≡ g))
-        → added gs h ≡ gs ++ (h ∷ []) → (g ≡ h) ⊎ Declares g ds
-        → (i : ℕ) × (i < length (entries (added gs h) ds)) × (gateAt (entries (added gs h) ds) i ≡ g)
+    go : (Declares g ds → (i : ℕ) × (i < length (entries (entered gs h) ds)) × (gateAt (entries (entered gs h) ds) i ≡ g))
+        → entered gs h ≡ gs ++ (h ∷ []) → (g ≡ h) ⊎ Declares g ds
+        → (i : ℕ) × (i < length (entries (entered gs h) ds)) × (gateAt (entries (entered gs h) ds) i ≡ g)
     go ih q (inl r) =
-        let w = grown-entries (added gs h) ds in
+        let w = grown-entries (entered gs h) ds in
         let n : ℕ = length gs in
-        let b : n < length (added gs h) = omega (arith, ap length q, length-append gs (h ∷ [])) in
+        let b : n < length (entered gs h) = omega (arith, ap length q, length-append gs (h ∷ [])) in
         (n, omega (arith, w .longer), w .kept n b ∙ ap (λ (l : List Gate). gateAt l n) q ∙ getD-at gs h [] noGate n refl ∙ sym r)
     go ih q (inr m) = ih m
 own-entry gs (top s ∷ ds) g e d = own-entry gs ds g e d

@@ -16,4 +16,6 @@ pub mod Count
 pub mod Counted
 pub mod Exact
 pub mod Answered
+pub mod Weights
+pub mod Bounds
 pub mod Promises

@@ -9,16 +9,19 @@ use native.Mathlib.Omega.{arith}
 use lib.Dec.{T, ltb, leb, eqb, eqb→eq, eqb-refl, leb→le}
 use lib.ListN.{length, getD}
 use Rattle.rules.specs.declared.Operand.{Operand}
+use Rattle.rules.specs.declared.Header.{Header}
+use Rattle.rules.specs.declared.FoundGate.{FoundGate}
+use Rattle.rules.specs.declared.FoundGate.the-variants.{Known, Unknown}
 use Rattle.rules.specs.Basics.{pick}
 use Rattle.rules.specs.Syntax.{Stmt, u, cx, measure, reset, barrier, call, if, missing, Gate, Program}
-use Rattle.rules.specs.Checking.{gateAt, numberOf, isGate, gatesOf, Asked, quantum, classic, Sized, size, bad, assertReg}
+use Rattle.rules.specs.Checking.{gateAt, numberOf, isGate, headerOf, header, gatesOf, topScope, bodyScope, Asked, quantum, classic, Sized, size, bad, assertReg}
 use Rattle.rules.specs.Calls.{errors}
-use Rattle.rules.specs.Run.{Entry, barrierEndE, ifE, ifEndE, Out, stuck, done, both, guard, with, turns, Place, startOf, sizeOnly, sizes, common, paired, lanes, spread, allKnown, qubitsFrom, barrierQubits, callable, run, runs, bodyPlace, runBody, runGate, topPlace, tops, runAt, runOf}
-use Rattle.theorems.specs.Words.{NoWalk, Each, callsIn, totals, Inside, called, calledIn, calledBy}
-use Rattle.theorems.specs.Search.{and-T, T-and, or-T, T-left, T-right}
+use Rattle.rules.specs.Run.{Entry, barrierEndE, ifE, ifEndE, Out, stuck, done, both, guard, with, turns, Place, startOf, sizeOnly, sizes, common, paired, lanes, spread, allKnown, qubitsFrom, barrierQubits, calling, run, runs, bodyPlace, runBody, runGate, topPlace, tops, runAt, runOf}
+use Rattle.theorems.specs.Words.{NoWalk, Each, callsIn, totals, Inside, numbered, called, calledIn, calledBy}
+use Rattle.theorems.specs.Search.{and-T, or-T, T-left, T-right}
 use Rattle.theorems.specs.Walks.{no-long}
 use Rattle.theorems.specs.Callees.{calledIn-lt, calls-within, body-calls}
-use Rattle.theorems.specs.Agree.{callable-parts, pairing, fits, is, passes, passAll, sizes-cons, sizes-nil}
+use Rattle.theorems.specs.Agree.{callable, pairing, fits, is, passes, passAll, sizes-cons, sizes-nil}
 use Rattle.theorems.specs.Rows.{Bounded, top-bounded, body-bounded}
 use Rattle.theorems.specs.Runs.{ifRun, deeper}
 use Rattle.theorems.specs.Admitted.{Sound, passBody, admitted}
@@ -41,6 +44,18 @@ Under tot [] (q ∷ qs) = ⊥
 Under tot (b ∷ bs) [] = ⊥
 Under tot (b ∷ bs) (q ∷ qs) = (b < tot (q .classical)) × Under tot bs qs
 
+-- what is known of a name counts the arguments of its gate
+abbrev Arity : List Gate → (ℕ → FoundGate) → Type 0
+Arity gs gates = (x : ℕ) (h : Header) → gates x ≡ Known h → h .args ≡ length (gateAt gs (h .number) .args)
+
+header-arity : (gs : List Gate) → Arity gs (header gs)
+unfolding header
+header-arity gs x h = go (isGate gs x)
+  where
+    go : (b : Bool) → pick b (Known (headerOf gs (numberOf gs x))) Unknown ≡ Known h → h .args ≡ length (gateAt gs (h .number) .args)
+    go true e = let q : headerOf gs (numberOf gs x) ≡ h = cc in subst (λ (k : Header). k .args ≡ length (gateAt gs (k .number) .args)) q refl
+    go false e = let k : _≡_ {A = ℕ} 0 1 = cc in absurd (omega arith)
+
 module _ (tot : Bool → ℕ) where
   fine-both : (a b : Out) → Fine tot a → Fine tot b → Fine tot (both a b)
   fine-both stuck b f g = f
@@ -50,6 +65,13 @@ module _ (tot : Bool → ℕ) where
   fine-guard : (b : Bool) (o : Out) → T b → Fine tot o → Fine tot (guard b o)
   fine-guard true o t f = f
   fine-guard false o t f = absurd t
+
+  fine-calling : (found : FoundGate) (params args : ℕ) (f : ℕ → Out) → T (callable found params args)
+      → ((h : Header) → found ≡ Known h → h .args ≡ args → Fine tot (f (h .number))) → Fine tot (calling found params args f)
+  fine-calling Unknown params args f t r = absurd t
+  fine-calling (Known h) params args f t r =
+      fine-guard (callable (Known h) params args) (f (h .number)) t
+      (r h refl (eqb→eq (h .args) args (and-T (eqb (h .params) params) (eqb (h .args) args) t .1)))
 
   fine-turns : (k j : ℕ) (f : ℕ → Out) → ((i : ℕ) → i < j + k → Fine tot (f i)) → Fine tot (turns k j f)
   unfolding turns
@@ -132,12 +154,12 @@ module _ (tot : Bool → ℕ) where
             (fine-both (done (ifE (startOf P o) w v ∷ [])) (both r (done (ifEndE ∷ []))) ((omega arith, b .1), tt)
             (fine-both r (done (ifEndE ∷ [])) f (tt, tt)))
 
-    module _ (gs : List Gate) (f : ℕ → List ℕ → Out) where
+    module _ (gs : List Gate) (arity : Arity gs (P .scope .gates)) (f : ℕ → List ℕ → Out) where
       -- the calls to the gates that the test names end well
       abbrev CallsFine : (ℕ → Bool) → Type 0
       CallsFine t = (c : ℕ) (qs : List ℕ) → T (t c) → length qs ≡ length (gateAt gs c .args) → Each (λ q. q < tot false) qs → Fine tot (f c qs)
 
-      run-fine : (s : Stmt) → T (passes gs (P .scope) s) → CallsFine (called gs s) → Fine tot (run gs f P s)
+      run-fine : (s : Stmt) → T (passes (P .scope) s) → CallsFine (called (P .scope .gates) s) → Fine tot (run f P s)
       unfolding run passes called
       run-fine (u sp o x y z) t h =
           let a = and-T (pairing (sizes (P .scope) (quantum o ∷ []))) (allKnown (P .scope .params) (x ∷ y ∷ z ∷ [])) t in
@@ -157,27 +179,27 @@ module _ (tot : Bool → ℕ) where
           go none e t = absurd t
           go (some ns) e t = each-append (Inside tot) (barrierQubits P ns (map quantum os)) (barrierEndE ∷ []) (fine-barrier os ns e) (tt, tt)
       run-fine (call sp ns x es os) t h =
-          let c : Bool = callable gs x (length es) (length os) in
           let k : Bool = allKnown (P .scope .params) es in
-          let a = and-T c (pairing (sizes (P .scope) (map quantum os)) && k) t in
+          let a = and-T (callable (P .scope .gates x) (length es) (length os)) (pairing (sizes (P .scope) (map quantum os)) && k) t in
           let b = and-T (pairing (sizes (P .scope) (map quantum os))) k (a .1) in
-          let g = callable-parts gs x (length es) (length os) (a .0) in
-          let i = T-and (isGate gs x) (eqb (numberOf gs x) (numberOf gs x)) (g .0) (eqb-refl (numberOf gs x)) in
-          fine-guard (c && k) _ (T-and c k (a .0) (b .1))
-          (fine-spread (map quantum os) (f (numberOf gs x)) (b .0) (λ bs m. let r = quantum-under bs os m in h (numberOf gs x) bs i (r .1 ∙ sym (g .1)) (r .0)))
+          fine-calling (P .scope .gates x) (length es) (length os) _ (a .0) (λ g e n.
+          let i : T (numbered (P .scope .gates x) (g .number)) = rw e (eqb-refl (g .number)) in
+          fine-guard k _ (b .1) (fine-spread (map quantum os) (f (g .number)) (b .0) (λ bs m.
+          let r = quantum-under bs os m in
+          h (g .number) bs i (r .1 ∙ sym n ∙ arity x g e) (r .0))))
       run-fine (if sp o vs v s) t h =
-          let a = and-T (fits v (sizeOnly (assertReg (P .scope .regs) 0 (classic o)))) (passes gs (P .scope) s) t in
-          fine-if o v (run gs f P s) (a .0) (run-fine s (a .1) h)
+          let a = and-T (fits v (sizeOnly (assertReg (P .scope .regs) 0 (classic o)))) (passes (P .scope) s) t in
+          fine-if o v (run f P s) (a .0) (run-fine s (a .1) h)
       run-fine missing t h = tt
 
-      runs-fine : (ss : List Stmt) → T (passAll gs (P .scope) ss) → CallsFine (calledIn gs ss) → Fine tot (runs gs f P ss)
+      runs-fine : (ss : List Stmt) → T (passAll (P .scope) ss) → CallsFine (calledIn (P .scope .gates) ss) → Fine tot (runs f P ss)
       unfolding runs passAll calledIn
       runs-fine [] t h = tt
       runs-fine (s ∷ ss) t h =
-          let a = and-T (passes gs (P .scope) s) (passAll gs (P .scope) ss) t in
-          fine-both (run gs f P s) (runs gs f P ss)
-          (run-fine s (a .0) (λ c qs k. h c qs (T-left (called gs s c) (calledIn gs ss c) k)))
-          (runs-fine ss (a .1) (λ c qs k. h c qs (T-right (called gs s c) (calledIn gs ss c) k)))
+          let a = and-T (passes (P .scope) s) (passAll (P .scope) ss) t in
+          fine-both (run f P s) (runs f P ss)
+          (run-fine s (a .0) (λ c qs k. h c qs (T-left (called (P .scope .gates) s c) (calledIn (P .scope .gates) ss c) k)))
+          (runs-fine ss (a .1) (λ c qs k. h c qs (T-right (called (P .scope .gates) s c) (calledIn (P .scope .gates) ss c) k)))
 
 -- ---- gates and programs
 
@@ -185,7 +207,7 @@ module _ (p : Program) (S : Sound p) where
   -- a call of g within depth d ends well, if no d calls one after another begin at g
   pub gate-fine : (tot : Bool → ℕ) (d g : ℕ) (qs : List ℕ) → NoWalk (callsIn p) d g → g < length (gatesOf p)
       → length qs ≡ length (gateAt (gatesOf p) g .args) → Each (λ q. q < tot false) qs → Fine tot (runGate (gatesOf p) d g qs)
-  unfolding runGate bodyPlace
+  unfolding runGate bodyPlace bodyScope
   gate-fine tot zero g qs few b len a = absurd (few g refl)
   gate-fine tot (suc d) g qs few b len a =
       go (gateAt (gatesOf p) g .body) refl (S .bodies g b)
@@ -199,14 +221,15 @@ module _ (p : Program) (S : Sound p) where
           → Fine tot (runBody gs (runGate gs d) (gateAt gs g) o qs)
       go none e t ih = (a, tt)
       go (some ss) e t ih =
-          runs-fine tot (bodyPlace (gateAt gs g) qs) (body-bounded tot (gateAt gs g) qs len a) gs (runGate gs d) ss t
-          (λ c rs k. ih c rs (body-calls p g c b (subst (λ (o : Option (List Stmt)). T (calledBy gs o c)) (sym e) k)))
+          runs-fine tot (bodyPlace gs (gateAt gs g) qs) (body-bounded tot gs (gateAt gs g) qs len a) gs (header-arity gs) (runGate gs d) ss t
+          (λ c rs k. ih c rs (body-calls p g c b (subst (λ (o : Option (List Stmt)). T (calledBy (header gs) o c)) (sym e) k)))
 
   -- the whole program within a depth that is enough for its calls
   pub program-fine : (d : ℕ) → ((g : ℕ) → g < length (gatesOf p) → NoWalk (callsIn p) d g) → Fine (totals p) (runAt d p)
-  unfolding runAt topPlace
+  unfolding runAt topPlace topScope
   program-fine d few =
-      runs-fine (totals p) (topPlace (p .decls)) (top-bounded (p .decls) (S .rows)) (gatesOf p) (runGate (gatesOf p) d) (tops (p .decls)) (S .main)
+      runs-fine (totals p) (topPlace (gatesOf p) (p .decls)) (top-bounded (gatesOf p) (p .decls) (S .rows)) (gatesOf p) (header-arity (gatesOf p))
+      (runGate (gatesOf p) d) (tops (p .decls)) (S .main)
       (λ c rs k. let b = calledIn-lt (gatesOf p) (tops (p .decls)) c k in gate-fine (totals p) d c rs (few c b) b)
 
 pub fine-done : (tot : Bool → ℕ) (o : Out) → Fine tot o → (es : List Entry) × (o ≡ done es) × Each (Inside tot) es

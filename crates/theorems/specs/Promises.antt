@@ -9,7 +9,7 @@ use lib.Dec.{T}
 use lib.ListN.{length}
 use Rattle.rules.specs.Syntax.{Stmt, Gate, Program}
 use Rattle.rules.specs.Grouping.{program}
-use Rattle.rules.specs.Checking.{gateAt, gatesOf, topScope, bodyScope, stmtErrors, topErrors, bodyErrors, localErrors}
+use Rattle.rules.specs.Checking.{gateAt, header, gatesOf, topScope, bodyScope, stmtErrors, topErrors, bodyErrors, localErrors}
 use Rattle.rules.specs.Calls.{callsOf, recursionErrors, errors}
 use Rattle.rules.specs.Order.{order, orderOf}
 use Rattle.rules.specs.Run.{Entry, Out, stuck, done, Place, run, runGate, tops, runAt, runOf}
@@ -132,16 +132,16 @@ expand-answers = answered.expand-admitted
 
 -- "A statement at which check lists an error of kinds 7 to 15 is one at which the run, reaching it, is stuck (in its scope, whatever the depth left)":
 -- whatever a call comes to. The errors of an IF are those of its operand, its comparison and the statement that it governs: any of them makes the IF stuck.
-pub error-sticks : (gs : List Gate) (call : ℕ → List ℕ → Out) (P : Place) (s : Stmt) → (stmtErrors gs (P .scope) s ≡ [] → ⊥) → run gs call P s ≡ stuck
+pub error-sticks : (call : ℕ → List ℕ → Out) (P : Place) (s : Stmt) → (stmtErrors (P .scope) s ≡ [] → ⊥) → run call P s ≡ stuck
 error-sticks = exact.error-stuck
 
 -- So a gate with an error in its body is stuck whenever it runs, on whatever qubits and within whatever depth, ..
-pub body-error-sticks : (gs : List Gate) (d g : ℕ) (qs : List ℕ) → (bodyErrors gs (bodyScope (gateAt gs g)) (gateAt gs g .body) ≡ [] → ⊥)
+pub body-error-sticks : (gs : List Gate) (d g : ℕ) (qs : List ℕ) → (bodyErrors (bodyScope gs (gateAt gs g)) (gateAt gs g .body) ≡ [] → ⊥)
     → runGate gs d g qs ≡ stuck
 body-error-sticks = exact.body-stuck
 
 -- .. and a program with an error at top level is stuck within whatever depth.
-pub top-error-sticks : (p : Program) (d : ℕ) → (topErrors (gatesOf p) (topScope (p .decls)) (p .decls) ≡ [] → ⊥) → runAt d p ≡ stuck
+pub top-error-sticks : (p : Program) (d : ℕ) → (topErrors (topScope (gatesOf p) (p .decls)) (p .decls) ≡ [] → ⊥) → runAt d p ≡ stuck
 top-error-sticks = exact.top-stuck
 
 -- Of a program with no errors but recursion: a gate's run ends within depth d just where no d calls one after another begin at the gate. All calls in
@@ -157,6 +157,6 @@ pub recursion-sticks : (p : Program) → localErrors p ≡ [] → (g h : ℕ) �
 recursion-sticks p e = exact.recursion-stuck p (admitted.sound p e)
 
 -- .. and where the top level calls such a gate, the program is.
-pub recursion-reached : (p : Program) → localErrors p ≡ [] → (g h : ℕ) → T (calledIn (gatesOf p) (tops (p .decls)) g) → Reach (callsIn p) g h
+pub recursion-reached : (p : Program) → localErrors p ≡ [] → (g h : ℕ) → T (calledIn (header (gatesOf p)) (tops (p .decls)) g) → Reach (callsIn p) g h
     → Reach (callsIn p) h h → (d : ℕ) → runAt d p ≡ stuck
 recursion-reached p e = exact.program-stuck p (admitted.sound p e)

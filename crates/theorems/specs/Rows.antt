@@ -9,14 +9,16 @@ use lib.Dec.{T, ltb, ltb→lt, eqb}
 use lib.ListN.{length, getD, take, length-map}
 use lib.Seq.{take-suc, take-length}
 use Rattle.rules.specs.declared.Reg.{Reg}
+use Rattle.rules.specs.declared.FoundGate.{FoundGate}
 use Rattle.rules.specs.declared.Found.{Found}
 use Rattle.rules.specs.declared.Found.the-variants.{Row, Nothing}
 use Rattle.rules.specs.Basics.{pick}
 use Rattle.rules.specs.Syntax.{Named, Gate, Decl}
 use Rattle.rules.specs.Errors.{Error}
-use Rattle.rules.specs.Checking.{latest, later, argument, registers, topScope, bodyScope, Asked, size, bad, foundSize, assertReg}
-use Rattle.rules.specs.Run.{noReg, latestOf, startsFrom, bitsOf, Place, startOf, bodyPlace, topPlace}
+use Rattle.rules.specs.Checking.{header, latest, later, argument, registers, isParam, topScope, bodyScope, Asked, size, bad, foundSize, assertReg}
+use Rattle.rules.specs.Run.{noReg, latestOf, startsFrom, bitsOf, bitOf, Place, startOf, bodyPlace, topPlace}
 use Rattle.theorems.specs.Words.{Each}
+use Rattle.theorems.specs.Search.{pick-same}
 
 -- ---- lists
 
@@ -74,9 +76,9 @@ latest-number other rs x r e = latest-front other (length rs) rs x r (le-refl (l
 
 -- ---- an operand of size n lies in its row
 
-pub record Fitting (rs : List Reg) (q : Asked) (n : ℕ) : Type 0 where
+pub record Fitting (find : ℕ → Found) (q : Asked) (n : ℕ) : Type 0 where
   pub row : Reg
-  pub found : latest rs (q .operand .name) ≡ Row row
+  pub found : find (q .operand .name) ≡ Row row
   pub kind : row .classical ≡ q .classical
   pub inside : pick (q .operand .indexed) (q .operand .index) 0 + n ≤ row .size
   pub some : 0 < row .size → 0 < n
@@ -100,11 +102,11 @@ row-fits true true false j n m d e h q = absurd (bad-size d n q)
 row-fits true false c j n m d e h q = let k = size-size m n q in (tt, omega arith, λ l. omega arith)
 row-fits false b c j n m d e h q = absurd (bad-size e n q)
 
-pub fitting : (rs : List Reg) (stmt : ℕ) (q : Asked) (n : ℕ) → assertReg rs stmt q ≡ size n → Fitting rs q n
+pub fitting : (find : ℕ → Found) (stmt : ℕ) (q : Asked) (n : ℕ) → assertReg find stmt q ≡ size n → Fitting find q n
 unfolding assertReg
-fitting rs stmt q n e = go (latest rs (q .operand .name)) refl e
+fitting find stmt q n e = go (find (q .operand .name)) refl e
   where
-    go : (f : Found) → latest rs (q .operand .name) ≡ f → foundSize f stmt q ≡ size n → Fitting rs q n
+    go : (f : Found) → find (q .operand .name) ≡ f → foundSize f stmt q ≡ size n → Fitting find q n
     go Nothing f e = absurd (bad-size _ n e)
     go (Row r) f e =
         let i : ℕ = q .operand .index in
@@ -117,19 +119,19 @@ fitting rs stmt q n e = go (latest rs (q .operand .name)) refl e
 abbrev pub Bounded : (Bool → ℕ) → Place → Type 0
 Bounded tot P = (q : Asked) (n : ℕ) → assertReg (P .scope .regs) 0 q ≡ size n → (0 < n) × (startOf P (q .operand) + n ≤ tot (q .classical))
 
--- enough that every row of the scope does
+-- enough that every row does, where names mean rows that begin at the starts
 abbrev pub RowsBounded : (Bool → ℕ) → List Reg → List ℕ → Type 0
 RowsBounded tot rs starts =
     (i : ℕ) → i < length rs → (0 < getD rs i noReg .size) × (getD starts i 0 + getD rs i noReg .size ≤ tot (getD rs i noReg .classical))
 
-bounded : (tot : Bool → ℕ) (P : Place) → RowsBounded tot (P .scope .regs) (P .starts) → Bounded tot P
-unfolding startOf
-bounded tot P R q n e =
-    let rs : List Reg = P .scope .regs in
-    let f = fitting rs 0 q n e in
+bounded : (tot : Bool → ℕ) (gates : ℕ → FoundGate) (params : ℕ → Bool) (rs : List Reg) (starts : List ℕ) → RowsBounded tot rs starts
+    → Bounded tot (record { scope = record { gates = gates; regs = latest rs; params = params }; bit = bitOf rs starts })
+unfolding startOf bitOf
+bounded tot gates params rs starts R q n e =
+    let f = fitting (latest rs) 0 q n e in
     let i : ℕ = latestOf (length rs) (length rs) rs (q .operand .name) in
     let a = latest-number (length rs) rs (q .operand .name) (f .row) (f .found) in
-    let b = subst (λ (r : Reg). (0 < r .size) × (getD (P .starts) i 0 + r .size ≤ tot (r .classical))) (a .1) (R i (a .0)) in
+    let b = subst (λ (r : Reg). (0 < r .size) × (getD starts i 0 + r .size ≤ tot (r .classical))) (a .1) (R i (a .0)) in
     (f .some (b .0), omega (arith, b .1, f .inside, ap tot (f .kind)))
 
 bits-cons : (k b : Bool) (r : Reg) (rs : List Reg) → r .classical ≡ b → bitsOf k (r ∷ rs) ≡ pick (Bool·beq k b) (r .size) 0 + bitsOf k rs
@@ -163,16 +165,12 @@ starts-bound q c (r ∷ rs) (suc i) h =
     go false e true x y = omega (arith, bits-cons true false r rs e)
     go false e false x y = omega (arith, bits-cons false false r rs e)
 
-pick-same : (b : Bool) (n : ℕ) → pick b n n ≡ n
-pick-same true n = refl
-pick-same false n = refl
-
 -- at top level: the registers in declaration order, none of size 0
-pub top-bounded : (ds : List Decl) → Each (λ r. 0 < r .size) (registers ds) → Bounded (λ c. bitsOf c (registers ds)) (topPlace ds)
+pub top-bounded : (gs : List Gate) (ds : List Decl) → Each (λ r. 0 < r .size) (registers ds) → Bounded (λ c. bitsOf c (registers ds)) (topPlace gs ds)
 unfolding topPlace topScope
-top-bounded ds e =
+top-bounded gs ds e =
     let rs : List Reg = registers ds in
-    bounded (λ c. bitsOf c rs) (topPlace ds) (λ i h.
+    bounded (λ c. bitsOf c rs) (header gs) (λ x. false) rs (startsFrom 0 0 rs) (λ i h.
     (each-at (λ r. 0 < r .size) rs noReg i e h, omega (arith, starts-bound 0 0 rs i h, pick-same (getD rs i noReg .classical) 0)))
 
 -- in a body: each argument is one quantum bit
@@ -180,10 +178,11 @@ pub arguments : (l : List Named) → Each (λ r. (r .size ≡ 1) × (r .classica
 arguments [] = tt
 arguments (a ∷ l) = ((refl, refl), arguments l)
 
-pub body-bounded : (tot : Bool → ℕ) (g : Gate) (qs : List ℕ) → length qs ≡ length (g .args) → Each (λ q. q < tot false) qs → Bounded tot (bodyPlace g qs)
+pub body-bounded : (tot : Bool → ℕ) (gs : List Gate) (g : Gate) (qs : List ℕ) → length qs ≡ length (g .args) → Each (λ q. q < tot false) qs
+    → Bounded tot (bodyPlace gs g qs)
 unfolding bodyPlace bodyScope
-body-bounded tot g qs len a =
-    bounded tot (bodyPlace g qs) (λ i h.
+body-bounded tot gs g qs len a =
+    bounded tot (header gs) (isParam (g .params)) (map argument (g .args)) qs (λ i h.
     let r = each-at (λ r. (r .size ≡ 1) × (r .classical ≡ false)) (map argument (g .args)) noReg i (arguments (g .args)) h in
     let q = each-at (λ q. q < tot false) qs 0 i a (omega (arith, len, length-map (g .args) argument)) in
     (omega (arith, r .0), omega (arith, r .0, ap tot (r .1))))

@@ -1,6 +1,6 @@
 -- Runs that end: what their parts came to, and that more depth changes nothing.
 use mathlib.Core.Path.{_≡_, refl, sym, ap}
-use mathlib.Core.Bool.{Bool, true, false, _&&_}
+use mathlib.Core.Bool.{Bool, true, false}
 use mathlib.Core.Option.{Option, none, some}
 use mathlib.Core.List.{List, [], _∷_, _++_, map}
 use Prim.Native.Nat.{ℕ, zero, suc, _^_, _≤_}
@@ -8,9 +8,13 @@ use native.Mathlib.Omega.{arith}
 use lib.Dec.{T, ltb}
 use lib.ListN.{length}
 use Rattle.rules.specs.declared.Operand.{Operand}
+use Rattle.rules.specs.declared.Header.{Header}
+use Rattle.rules.specs.declared.FoundGate.{FoundGate}
+use Rattle.rules.specs.declared.FoundGate.the-variants.{Known, Unknown}
 use Rattle.rules.specs.Syntax.{Stmt, u, cx, measure, reset, barrier, call, if, missing, Gate, Program}
-use Rattle.rules.specs.Checking.{gateAt, numberOf, gatesOf, Asked, quantum, classic, assertReg}
-use Rattle.rules.specs.Run.{Entry, Out, stuck, done, both, guard, with, turns, Place, sizeOnly, sizes, common, paired, lanes, spread, allKnown, callable, ifE, ifEndE, startOf, run, runs, bodyPlace, runBody, runGate, topPlace, tops, runAt}
+use Rattle.rules.specs.Checking.{gateAt, gatesOf, Asked, quantum, classic, assertReg}
+use Rattle.rules.specs.Run.{Entry, Out, stuck, done, both, guard, with, turns, Place, sizeOnly, sizes, common, paired, lanes, spread, allKnown, calling, ifE, ifEndE, startOf, run, runs, bodyPlace, runBody, runGate, topPlace, tops, runAt}
+use Rattle.theorems.specs.Agree.{callable}
 
 -- ---- the parts of a run that ended
 
@@ -49,6 +53,19 @@ spread-done P qs f es e =
     let w = with-done (sizes (P .scope) qs) _ es e in
     let g = guard-done (paired (common (w .0)) (w .0)) _ es (w .2) in
     record { sized = w .0; have = w .1; pair = g .0; ran = g .1 }
+
+pub record Called (found : FoundGate) (params args : ℕ) (f : ℕ → Out) (es : List Entry) : Type 0 where
+  pub header : Header
+  pub known : found ≡ Known header
+  pub counts : T (callable found params args)
+  pub ran : f (header .number) ≡ done es
+
+pub calling-done : (found : FoundGate) (params args : ℕ) (f : ℕ → Out) (es : List Entry) → calling found params args f ≡ done es
+    → Called found params args f es
+calling-done Unknown params args f es e = absurd (stuck-done es e)
+calling-done (Known h) params args f es e =
+    let g = guard-done (callable (Known h) params args) (f (h .number)) es e in
+    record { header = h; known = refl; counts = g .0; ran = g .1 }
 
 -- IF: the governed statement's run in its place
 abbrev pub ifRun : Place → Operand → ℕ → Out → Out
@@ -110,6 +127,11 @@ unfolding spread
 follows-spread P qs h =
     follows-with (sizes (P .scope) qs) (λ ns. follows-guard (paired (common ns) ns) (follows-turns (common ns) 0 (λ j. h (lanes P j ns qs))))
 
+follows-calling : (found : FoundGate) (params args : ℕ) {f g : ℕ → Out} → ((c : ℕ) → Follows (f c) (g c))
+    → Follows (calling found params args f) (calling found params args g)
+follows-calling Unknown params args h = λ es e. e
+follows-calling (Known k) params args h = follows-guard (callable (Known k) params args) (h (k .number))
+
 follows-if : (P : Place) (o : Operand) (v : ℕ) {r t : Out} → Follows r t → Follows (ifRun P o v r) (ifRun P o v t)
 follows-if P o v {r} {t} h =
     follows-with (sizeOnly (assertReg (P .scope .regs) 0 (classic o))) (λ w.
@@ -118,8 +140,8 @@ follows-if P o v {r} {t} h =
     around : (a b : Out) → Follows (both a (both r b)) (both a (both t b))
     around a b = follows-both {a = a} {b = both r b} {c = a} {d = both t b} (λ es e. e) (follows-both {a = r} {b = b} {c = t} {d = b} h (λ es e. e))
 
-module _ (gs : List Gate) {f h : ℕ → List ℕ → Out} (more : (g : ℕ) (qs : List ℕ) → Follows (f g qs) (h g qs)) where
-  follows-run : (P : Place) (s : Stmt) → Follows (run gs f P s) (run gs h P s)
+module _ {f h : ℕ → List ℕ → Out} (more : (g : ℕ) (qs : List ℕ) → Follows (f g qs) (h g qs)) where
+  follows-run : (P : Place) (s : Stmt) → Follows (run f P s) (run h P s)
   unfolding run
   follows-run P (u sp o x y z) = λ es e. e
   follows-run P (cx sp x y) = λ es e. e
@@ -127,26 +149,27 @@ module _ (gs : List Gate) {f h : ℕ → List ℕ → Out} (more : (g : ℕ) (qs
   follows-run P (reset sp o) = λ es e. e
   follows-run P (barrier sp os) = λ es e. e
   follows-run P (call sp ns x es os) =
-      follows-guard (callable gs x (length es) (length os) && allKnown (P .scope .params) es) (follows-spread P (map quantum os) (more (numberOf gs x)))
+      follows-calling (P .scope .gates x) (length es) (length os) (λ g.
+      follows-guard (allKnown (P .scope .params) es) (follows-spread P (map quantum os) (more g)))
   follows-run P (if sp o vs v s) = follows-if P o v (follows-run P s)
   follows-run P missing = λ es e. e
 
-  follows-runs : (P : Place) (ss : List Stmt) → Follows (runs gs f P ss) (runs gs h P ss)
+  follows-runs : (P : Place) (ss : List Stmt) → Follows (runs f P ss) (runs h P ss)
   unfolding runs
   follows-runs P [] = λ es e. e
   follows-runs P (s ∷ ss) = follows-both (follows-run P s) (follows-runs P ss)
 
-  follows-body : (g : Gate) (b : Option (List Stmt)) (qs : List ℕ) → Follows (runBody gs f g b qs) (runBody gs h g b qs)
-  follows-body g none qs = λ es e. e
-  follows-body g (some ss) qs = follows-runs (bodyPlace g qs) ss
+  follows-body : (gs : List Gate) (g : Gate) (b : Option (List Stmt)) (qs : List ℕ) → Follows (runBody gs f g b qs) (runBody gs h g b qs)
+  follows-body gs g none qs = λ es e. e
+  follows-body gs g (some ss) qs = follows-runs (bodyPlace gs g qs) ss
 
 follows-deeper : (gs : List Gate) (d k g : ℕ) (qs : List ℕ) → d ≤ k → Follows (runGate gs d g qs) (runGate gs k g qs)
 unfolding runGate
 follows-deeper gs zero k g qs h = λ es e. absurd (stuck-done es e)
 follows-deeper gs (suc d) zero g qs h = absurd (omega arith)
-follows-deeper gs (suc d) (suc k) g qs h = follows-body gs (λ c rs. follows-deeper gs d k c rs (omega arith)) (gateAt gs g) (gateAt gs g .body) qs
+follows-deeper gs (suc d) (suc k) g qs h = follows-body (λ c rs. follows-deeper gs d k c rs (omega arith)) gs (gateAt gs g) (gateAt gs g .body) qs
 
 -- a run that ends within a depth ends with the same entries within any greater depth
 pub deeper : (p : Program) (d k : ℕ) → d ≤ k → Follows (runAt d p) (runAt k p)
 unfolding runAt
-deeper p d k h = follows-runs (gatesOf p) (λ g qs. follows-deeper (gatesOf p) d k g qs h) (topPlace (p .decls)) (tops (p .decls))
+deeper p d k h = follows-runs (λ g qs. follows-deeper (gatesOf p) d k g qs h) (topPlace (gatesOf p) (p .decls)) (tops (p .decls))

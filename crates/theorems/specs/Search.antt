@@ -8,6 +8,7 @@ use native.Mathlib.Nat.{le-refl, not-suc-le-zero, lt-of-not-le}
 use native.Mathlib.Decide.{ℕ-discrete, decLe}
 use native.Mathlib.Omega.{arith}
 use lib.Dec.{T, ltb, ltb→lt, lt→ltb}
+use lib.ListN.{length}
 use Rattle.rules.specs.Basics.{pick, firstFrom, first, any}
 use Rattle.rules.specs.Graph.{those}
 use Rattle.theorems.specs.Words.{In, Rising}
@@ -38,6 +39,10 @@ T-left false b t = absurd t
 pub T-right : (a b : Bool) → T b → T (a || b)
 T-right true b t = tt
 T-right false b t = t
+
+pub pick-same : (b : Bool) (n : ℕ) → pick b n n ≡ n
+pick-same true n = refl
+pick-same false n = refl
 
 pub nil-parts : {A : Type 0} (xs ys : List A) → xs ++ ys ≡ [] → (xs ≡ []) × (ys ≡ [])
 nil-parts [] ys e = (refl, e)
@@ -108,6 +113,15 @@ those-rising (suc k) i p = go (p i) (those-rising k (suc i) p)
     go : (b : Bool) → Rising (suc i) (those k (suc i) p) → Rising i (pick b (i ∷ those k (suc i) p) (those k (suc i) p))
     go true r = (le-refl i, r)
     go false r = rising-less i (suc i) (those k (suc i) p) (omega arith) r
+
+pub those-length : (k i : ℕ) (p : ℕ → Bool) → length (those k i p) ≤ k
+unfolding those
+those-length zero i p = zero-le
+those-length (suc k) i p = go (p i) (those-length k (suc i) p)
+  where
+    go : (b : Bool) → length (those k (suc i) p) ≤ k → length (pick b (i ∷ those k (suc i) p) (those k (suc i) p)) ≤ suc k
+    go true h = omega arith
+    go false h = omega arith
 
 pub those-pass : (k i : ℕ) (p : ℕ → Bool) (g : ℕ) → In g (those k i p) → (i ≤ g) × (g < i + k) × T (p g)
 unfolding those

@@ -1,17 +1,19 @@
 -- The words that the promises are written in. A graph of calls is a test on gates' numbers: `E g h` says that g calls h.
 use mathlib.Core.Path.{_≡_}
 use mathlib.Core.Logic.{_⊎_}
-use mathlib.Core.Bool.{Bool, true, false, _&&_, _||_}
+use mathlib.Core.Bool.{Bool, true, false, _||_}
 use mathlib.Core.Option.{Option, none, some}
 use mathlib.Core.List.{List, [], _∷_, map}
 use Prim.Native.Nat.{ℕ, zero, suc, _+_, _≤_, _<_}
 use lib.Dec.{T, eqb, ltb}
 use lib.ListN.{length, getD}
+use Rattle.rules.specs.declared.FoundGate.{FoundGate}
+use Rattle.rules.specs.declared.FoundGate.the-variants.{Known, Unknown}
 use Rattle.rules.specs.declared.Answer.the-variants.{Done, Machine, Entries}
 use Rattle.rules.specs.Basics.{pick}
-use Rattle.rules.specs.Syntax.{Stmt, u, cx, measure, reset, barrier, call, if, missing, Gate, Program}
+use Rattle.rules.specs.Syntax.{Stmt, u, cx, measure, reset, barrier, call, if, missing, Program}
 use Rattle.rules.specs.Errors.{Error, recursiveDefinition}
-use Rattle.rules.specs.Checking.{gateAt, numberOf, isGate, gatesOf, registers}
+use Rattle.rules.specs.Checking.{gateAt, gatesOf, registers}
 use Rattle.rules.specs.Graph.{leaders, cycle}
 use Rattle.rules.specs.Calls.{Call, callsOf, edge}
 use Rattle.rules.specs.Run.{Entry, uE, cxE, measureE, resetE, barrierE, barrierEndE, opaqueE, ifE, ifEndE, entryField, bitsOf}
@@ -92,25 +94,30 @@ pub record CalleesFirst (n : ℕ) (E : ℕ → ℕ → Bool) (l : List ℕ) : Ty
 
 -- ---- the calls of a program
 
--- the statement calls gate g
-unfoldable pub called : List Gate → Stmt → ℕ → Bool
-called gs (u sp o x y z) g = false
-called gs (cx sp x y) g = false
-called gs (measure sp x y) g = false
-called gs (reset sp o) g = false
-called gs (barrier sp os) g = false
-called gs (call sp ns x es os) g = isGate gs x && eqb (numberOf gs x) g
-called gs (if sp o vs v s) g = called gs s g
-called gs missing g = false
+-- what is known of a name is that it is gate g's
+abbrev pub numbered : FoundGate → ℕ → Bool
+numbered Unknown g = false
+numbered (Known h) g = eqb (h .number) g
+
+-- the statement calls gate g, where `gates` tells what is known of a name
+unfoldable pub called : (gates : ℕ → FoundGate) → Stmt → ℕ → Bool
+called gates (u sp o x y z) g = false
+called gates (cx sp x y) g = false
+called gates (measure sp x y) g = false
+called gates (reset sp o) g = false
+called gates (barrier sp os) g = false
+called gates (call sp ns x es os) g = numbered (gates x) g
+called gates (if sp o vs v s) g = called gates s g
+called gates missing g = false
 
 -- one of the statements does
-unfoldable pub calledIn : List Gate → List Stmt → ℕ → Bool
-calledIn gs [] g = false
-calledIn gs (s ∷ ss) g = called gs s g || calledIn gs ss g
+unfoldable pub calledIn : (gates : ℕ → FoundGate) → List Stmt → ℕ → Bool
+calledIn gates [] g = false
+calledIn gates (s ∷ ss) g = called gates s g || calledIn gates ss g
 
-abbrev pub calledBy : List Gate → Option (List Stmt) → ℕ → Bool
-calledBy gs none g = false
-calledBy gs (some ss) g = calledIn gs ss g
+abbrev pub calledBy : (gates : ℕ → FoundGate) → Option (List Stmt) → ℕ → Bool
+calledBy gates none g = false
+calledBy gates (some ss) g = calledIn gates ss g
 
 -- which gate of the program calls which
 abbrev pub callsIn : Program → ℕ → ℕ → Bool
