@@ -1,0 +1,7 @@
+pub mod Payloads
+pub mod Tags
+pub mod Lookup
+pub mod Field
+pub mod Sorts
+pub mod Lists
+pub mod Loop

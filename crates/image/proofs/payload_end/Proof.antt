@@ -1,0 +1,14 @@
+use borrow.Author.Needs.{needs}
+use Rattle.image.proofs.Field.{payload-laws}
+use Rattle.image.proofs.payload_end.Statement.{statement}
+use Rattle.image.proofs.payload_end.Tie as tie
+
+pub payload-end-spec : {M : Type 1} → statement M
+payload-end-spec =
+    tie.close
+    (tie.spec
+    (λ c κs. search needs)
+    (λ c. search payload-laws)
+    (λ c. search payload-laws)
+    (λ c κs. search needs)
+    (λ c. search payload-laws))

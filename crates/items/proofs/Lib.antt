@@ -1,0 +1,4 @@
+pub mod Numbers
+pub mod Operands
+pub mod Exprs
+pub mod NodeLaws
