@@ -1,4 +1,5 @@
 pub mod View
 pub mod Tags
 pub mod Rows
+pub mod Steps
 pub mod Bridge
