@@ -1,10 +1,10 @@
 // Tables by name number: four words a name, 512 names.
 ghost use mathlib.Core.Path.{_≡_};
 ghost use Prim.Native.Nat.{_+_, _*_, _<_};
-ghost use lib.ListN.{length, getD};
-ghost use lib.Seq.{sets};
+ghost use lib.ListN.{length, getD, set};
 ghost use lib.Dec.{eqb};
-ghost use Rattle.tables.specs.Tables.{word, gateIn, regIn, paramIn};
+ghost use Rattle.tables.specs.Tables.{word, gateIn, regIn, paramIn, rowSet, paramSet};
+ghost use mathlib.Core.List.{[], _∷_};
 use rules::Found;
 use rules::FoundGate;
 use rules::Header;
@@ -70,4 +70,50 @@ pub fn is_param(t: &[u64], x: u64) -> bool
         return false;
     }
     word_at(t, x, 3) == 1
+}
+
+// A word stored, where the table has one.
+fn store(t: &mut [u64], i: usize, v: u64)
+    ensures { λ _. ⌜ now (t .exit) ≡ set (now (t .entry)) i v ⌝ }
+{
+    if i < t.len() {
+        t[i] = v;
+    }
+}
+
+// A gate's row: its number and one more, its counts, its declaration span.
+pub fn set_gate(t: &mut [u64], x: u64, row: u64, params: u64, args: u64, decl: u64)
+    ensures { λ _. ⌜ now (t .exit) ≡ rowSet (now (t .entry)) x (row ∷ params ∷ args ∷ decl ∷ []) ⌝ }
+{
+    if 512 <= x {
+        return;
+    }
+    let i = 4 * x as usize;
+    store(t, i, row);
+    store(t, i + 1, params);
+    store(t, i + 2, args);
+    store(t, i + 3, decl);
+}
+
+// A register's or an argument's row: 1 quantum or 2 classical, its span, its size.
+pub fn set_reg(t: &mut [u64], x: u64, kind: u64, span: u64, size: u64)
+    ensures { λ _. ⌜ now (t .exit) ≡ rowSet (now (t .entry)) x (kind ∷ span ∷ size ∷ []) ⌝ }
+{
+    if 512 <= x {
+        return;
+    }
+    let i = 4 * x as usize;
+    store(t, i, kind);
+    store(t, i + 1, span);
+    store(t, i + 2, size);
+}
+
+// A parameter.
+pub fn set_param(t: &mut [u64], x: u64)
+    ensures { λ _. ⌜ now (t .exit) ≡ paramSet (now (t .entry)) x ⌝ }
+{
+    if 512 <= x {
+        return;
+    }
+    store(t, 4 * x as usize + 3, 1);
 }
