@@ -144,20 +144,21 @@ module _ (gates regs img : List ℕ) (at : ℕ) (b : List ℕ) (s : Sink) where
     said = rw (rest-end img at h) (put-none errorField b s);
     left = rw (rest-end img at h, rest-end img (length img) (omega arith)) refl;
     inside = omega arith;
-    on = λ k. k }
+    on = λ k. k;
+    past = λ l e. absurd (omega arith) }
 
   module _ (h : at < length img) (t : ℕ) (et : (t ≡ getD img at 0) × (t < 256)) (p : List ℕ) (ep : p ≡ load-at img at) (n : ℕ) (en : n ≡ nextIn img at) where
     pub done-plain : (t ≡ 22 → ⊥) → (k : Bool) → k ≡ isStmt t → k ≡ true → (b′ : List ℕ) (s′ : Sink) → Said b s (stmtErrors (scopeIn gates regs) (stmtIn t p)) b′ s′
         → Done gates regs img at b s b′ (record { next = n; sink = s′ })
     done-plain unlike k ek there b′ s′ w =
         let e = plain-stmt img at t n p h (et .0) ep en (stmt-plain t (sym ek ∙ there) unlike) in
-        record { said = rw (e .0) w; left = sym (e .1); inside = omega arith; on = λ l. omega arith }
+        record { said = rw (e .0) w; left = sym (e .1); inside = omega arith; on = λ l. omega arith; past = λ l q. omega arith }
 
     pub done-none : (k : Bool) → k ≡ isStmt t → k ≡ false → Done gates regs img at b s b (record { next = at; sink = s })
     unfolding stmtErrors
     done-none k ek none =
         let e = none-stmt img at t n p h (et .0) ep en (sym ek ∙ none) in
-        record { said = rw (e .0) (put-none errorField b s); left = sym (e .1); inside = omega arith; on = λ l. omega arith }
+        record { said = rw (e .0) (put-none errorField b s); left = sym (e .1); inside = omega arith; on = λ l. omega arith; past = λ l q. absurd (subst T (sym q ∙ ap isStmt (sym (et .0)) ∙ sym ek ∙ none) tt) }
 
     pub done-if : t ≡ 22 → (sp : ℕ) → (sp ≡ le4 p 0) × (sp < 4294967296) → (o : Operand) → o ≡ operandIn p 4
         → (b₁ : List ℕ) (s₁ : Sink) → Said b s (sizedErrors (assertReg (regIn regs) sp (asked true o))) b₁ s₁
@@ -172,6 +173,7 @@ module _ (gates regs img : List ℕ) (at : ℕ) (b : List ℕ) (s : Sink) where
           said = rw (q .0, ← es .0, ← eo, ← ev .0, ← eu, append-nil) (put-then errorField w₁ (put-then errorField (d .said) w₃));
           left = d .left ∙ sym (q .1);
           inside = d .inside;
-          on = λ l. let k : n ≤ length img = omega arith in omega (arith, d .on k) }
+          on = λ l. let k : n ≤ length img = omega arith in omega (arith, d .on k);
+          past = λ l q. let k : n ≤ length img = omega arith in omega (arith, d .on k) }
 
 pub ruleset done-laws = (done-end, done-plain, done-none, done-if)

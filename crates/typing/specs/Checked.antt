@@ -2,7 +2,9 @@
 use mathlib.Core.Path.{_≡_}
 use mathlib.Core.List.{List}
 use Prim.Native.Nat.{ℕ, _<_, _≤_}
-use lib.ListN.{length}
+use mathlib.Core.Bool.{true}
+use lib.ListN.{length, getD}
+use Rattle.rules.specs.Reading.{isStmt}
 use Rattle.rules.specs.Checking.{stmtErrors}
 use Rattle.rules.specs.Grouping.{stmt}
 use Rattle.views.specs.View.{rest}
@@ -18,3 +20,4 @@ pub record Done (gates regs img : List ℕ) (at : ℕ) (b : List ℕ) (s : Sink)
   pub left : rest img (r .next) ≡ after (rest img at)
   pub inside : r .next ≤ length img
   pub on : at ≤ length img → at ≤ r .next
+  pub past : at < length img → isStmt (getD img at 0) ≡ true → at < r .next
