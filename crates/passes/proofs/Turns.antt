@@ -10,17 +10,17 @@ use lib.Dec.{T, eqb}
 use Rattle.rules.specs.Errors.{Error, errorField}
 use Rattle.rules.specs.Reading.{isStmt, load-at}
 use Rattle.rules.specs.Syntax.{Stmt, Decl, Gate}
-use Rattle.rules.specs.Grouping.{stmt, stmts, decls}
-use Rattle.rules.specs.Checking.{Scope, stmtErrors, stmtsErrors, topErrors}
+use Rattle.rules.specs.Grouping.{stmt, stmts, bodyOf, decls}
+use Rattle.rules.specs.Checking.{Scope, bodyScope, stmtErrors, stmtsErrors, topErrors, bodyErrors, defErrors}
 use Rattle.views.specs.View.{nextIn, rest, rest-end}
-use Rattle.views.specs.Steps.{after, then, top-here, stmt-here, body-end, body-skip, inside-here, other-here}
+use Rattle.views.specs.Steps.{after, then, top-here, stmt-here, body-end, body-skip, inside-here, gate-here, gateAtPlace, other-here, gates-skip}
 use Rattle.output.specs.declared.Sink.{Sink}
 use Rattle.output.specs.Sinks.{Said, put-none, Owes, owes-less, owes-none}
 use Rattle.tables.specs.Tables.{scopeIn}
 use Rattle.typing.specs.declared.Checked.{Checked}
 use Rattle.typing.specs.Checked.{Done}
 use Rattle.passes.specs.declared.Step.{Step}
-use Rattle.passes.specs.Passes.{Moves}
+use Rattle.passes.specs.Passes.{Moves, Heads, BodyChecked, DefMoves, defs}
 
 -- ---- whether a body is open
 
@@ -109,3 +109,50 @@ module _ (gates regs img : List ℕ) (at : ℕ) (h : at < length img) (t : ℕ) 
   pub body-over : t ≡ 6 → bodies C img false at ≡ []
   unfolding stmtsErrors
   body-over e = rw (body-end img at t (nextIn img at) p h et ep refl e) refl
+
+-- ---- bodies behind headers
+
+pub defs-end : (gs : List Gate) (img : List ℕ) (i : Bool) (at : ℕ) → length img ≤ at → defs gs img i at ≡ []
+unfolding defErrors decls
+defs-end gs img true at h = rw (rest-end img at h) refl
+defs-end gs img false at h = rw (rest-end img at h) refl
+
+module _ (gates img : List ℕ) (at : ℕ) (h : at < length img) (t : ℕ) (et : t ≡ getD img at 0) (p : List ℕ) (ep : p ≡ load-at img at) (n : ℕ) (en : n ≡ nextIn img at)
+    (i j : Bool) (ej : j ≡ then i t p) (b : List ℕ) (s : Sink) where
+  -- nothing told, whatever the gates are
+  def-on : ((gs : List Gate) → defs gs img i at ≡ defs gs img j n) → DefMoves gates img i at b s b (record { next = n; inside = j; sink = s })
+  def-on q = record { moves = λ gs heads. moves-on (defs gs img) img i at b s j n h en (q gs); on = omega arith; within = omega arith }
+
+  pub def-inside : i ≡ true → DefMoves gates img i at b s b (record { next = n; inside = j; sink = s })
+  def-inside e = def-on (λ gs. rw (ej, e) (ap (defErrors gs) (inside-here img at t n p h et ep en)))
+
+  pub def-other : i ≡ false → (t ≡ 5 → ⊥) → DefMoves gates img i at b s b (record { next = n; inside = j; sink = s })
+  unfolding defErrors
+  def-other e m = def-on (λ gs. rw (ej, e) (gates-skip (defErrors gs) (λ sp x ds. refl) img at t n p h et ep en (λ x ds. refl) (λ c d o ds. refl) m))
+
+  -- a header: its body, if it has one
+  opened : i ≡ false → t ≡ 5 → (gs : List Gate) → defs gs img i at ≡ bodyErrors (bodyScope gs (gateAtPlace p (rest img n))) (bodyOf j (rest img n)) ++ defs gs img j n
+  unfolding defErrors gateAtPlace then
+  opened e f gs = rw (ej, e, gate-here img at t n p h et ep en f, f) refl
+
+  pub def-opaque : i ≡ false → t ≡ 5 → j ≡ false → DefMoves gates img i at b s b (record { next = n; inside = j; sink = s })
+  def-opaque e f k = def-on (λ gs. opened e f gs ∙ (rw k refl))
+
+  pub def-body : i ≡ false → t ≡ 5 → j ≡ true → (b′ : List ℕ) (r : Sink) → BodyChecked gates img n p b s b′ r → DefMoves gates img i at b s b′ (record { next = n; inside = j; sink = r })
+  def-body e f k b′ r w = record {
+    moves = λ gs heads. record {
+      told = stmtsErrors (bodyScope gs (gateAtPlace p (rest img n))) (stmts false (rest img n));
+      said = w .said gs heads;
+      owed = opened e f gs ∙ (rw k refl);
+      on = omega arith;
+      within = omega arith };
+    on = omega arith;
+    within = omega arith }
+
+-- what is owed whatever the gates are
+abbrev pub DefsOwed : (gates img b₀ : List ℕ) → Sink → List ℕ → Sink → Bool → ℕ → Type 0
+DefsOwed gates img b₀ s₀ b s i at = (gs : List Gate) → Heads gs gates → Owes errorField b₀ s₀ (defs gs img false 0) b s (defs gs img i at)
+
+pub defs-moved : (gates img b₀ : List ℕ) (s₀ : Sink) (i : Bool) (at : ℕ) (b : List ℕ) (s : Sink) (b′ : List ℕ) (r : Step) → DefsOwed gates img b₀ s₀ b s i at
+    → DefMoves gates img i at b s b′ r → DefsOwed gates img b₀ s₀ b′ (r .sink) (r .inside) (r .next)
+defs-moved gates img b₀ s₀ i at b s b′ r h m gs heads = moved (defs gs img) img i at b s b′ r b₀ s₀ _ (h gs heads) (m .moves gs heads)

@@ -12,8 +12,9 @@ ghost use Rattle.views.specs.View.{operandIn, namedIn, rowIn, rest, nextIn};
 ghost use Rattle.views.specs.Steps.{then};
 ghost use Rattle.output.specs.Sinks.{Said};
 ghost use Rattle.tables.specs.Tables.{gateIn, regIn, scopeIn};
-ghost use Rattle.passes.specs.Passes.{Moves};
+ghost use Rattle.passes.specs.Passes.{Moves, ArgsSet, ParamsSet, BodyChecked, DefMoves, DefsSaid};
 
+use items::along;
 use items::byte_at;
 use items::four_at;
 use output::Sink;
@@ -129,6 +130,91 @@ fn check_body(out: &mut [u8], s: Sink, img: &[u8], from: usize, gates: &[u64], r
             return w.sink;
         }
         w = body_step(out, w.sink, img, w.next, tag, gates, regs);
+    }
+    w.sink
+}
+
+// The arguments of a gate as a body sees them: quantum, of size 1, the later span where a name repeats.
+fn enter_args(t: &mut [u64], p: &[u8], from: usize, k: u64)
+    ensures { λ _. ⌜ ArgsSet (now (t .entry)) (rowIn namedIn 6 k (now (p .entry)) from) (now (t .exit)) ⌝ }
+{
+    let mut at = from;
+    let mut left = k;
+    while 0 < left {
+        set_reg(t, name(p, along(p, at, 4)), 1, four_at(p, at), 1);
+        at = along(p, at, 6);
+        left -= 1;
+    }
+}
+
+// The parameters of a gate.
+fn enter_params(t: &mut [u64], p: &[u8], from: usize, k: u64)
+    ensures { λ _. ⌜ ParamsSet (now (t .entry)) (rowIn namedIn 6 k (now (p .entry)) from) (now (t .exit)) ⌝ }
+{
+    let mut at = from;
+    let mut left = k;
+    while 0 < left {
+        set_param(t, name(p, along(p, at, 4)));
+        at = along(p, at, 6);
+        left -= 1;
+    }
+}
+
+// A body with the names of its own header.
+fn check_def(out: &mut [u8], s: Sink, img: &[u8], from: usize, p: &[u8], gates: &[u64]) -> Sink
+    ensures { λ r. ⌜ BodyChecked (now (gates .entry)) (now (img .entry)) from (now (p .entry)) (now (out .entry)) s (now (out .exit)) r ⌝ }
+{
+    let mut t = [0u64; 2048];
+    let params = byte_at(p, 11);
+    enter_args(&mut t, p, 13 + 6 * params as usize, byte_at(p, 12));
+    enter_params(&mut t, p, 13, params);
+    check_body(out, s, img, from, gates, &t)
+}
+
+// One field: the body behind a header that has one.
+fn def_step(out: &mut [u8], s: Sink, img: &[u8], at: usize, inside: bool, gates: &[u64]) -> Step
+    requires { ⌜ at < length (now img) ⌝ }
+    ensures { λ r. ⌜ DefMoves (now (gates .entry)) (now (img .entry)) inside at (now (out .entry)) s (now (out .exit)) r ⌝ }
+{
+    let tag = byte_at(img, at);
+    let p = load(img, at);
+    let behind = next(img, at);
+    let open = then_inside(inside, tag, p);
+    if inside {
+        return Step {
+            next: behind,
+            inside: open,
+            sink: s,
+        };
+    }
+    if tag == 5 {
+        if open {
+            let r = check_def(out, s, img, behind, p, gates);
+            return Step {
+                next: behind,
+                inside: open,
+                sink: r,
+            };
+        }
+    }
+    Step {
+        next: behind,
+        inside: open,
+        sink: s,
+    }
+}
+
+// The bodies, in declaration order, first entries or not.
+pub fn check_defs(out: &mut [u8], s: Sink, img: &[u8], gates: &[u64]) -> Sink
+    ensures { λ r. ⌜ DefsSaid (now (gates .entry)) (now (img .entry)) (now (out .entry)) s (now (out .exit)) r ⌝ }
+{
+    let mut w = Step {
+        next: 0,
+        inside: false,
+        sink: s,
+    };
+    while w.next < img.len() {
+        w = def_step(out, w.sink, img, w.next, w.inside, gates);
     }
     w.sink
 }
