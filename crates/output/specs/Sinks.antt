@@ -44,6 +44,9 @@ module _ {E : Type 0} (w : E → List ℕ) where
   pub owes-all : (o : List ℕ) (s : Sink) (es : List E) → Owes o s es o s es
   owes-all o s es = λ o′ s′ h. h
 
+  pub owes-same : (o : List ℕ) (s : Sink) {all rest : List E} → all ≡ rest → Owes o s all o s rest
+  owes-same o s e = λ o′ s′ h. put-same h (sym e)
+
   pub owes-less : {o₀ o o₁ : List ℕ} {s₀ s s₁ : Sink} {all rest a b : List E} → Owes o₀ s₀ all o s rest → rest ≡ a ++ b → Put o s a o₁ s₁ → Owes o₀ s₀ all o₁ s₁ b
   owes-less h e k = λ o′ s′ l. h o′ s′ (put-same (put-then k l) (sym e))
 

@@ -44,7 +44,7 @@ pub struct Step {
 }
 
 // Is a body open after a field?
-fn then_inside(inside: bool, tag: u64, p: &[u8]) -> bool
+pub fn then_inside(inside: bool, tag: u64, p: &[u8]) -> bool
     ensures { λ r. ⌜ r ≡ then inside tag (now (p .entry)) ⌝ }
 {
     if inside {

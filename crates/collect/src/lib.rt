@@ -1,0 +1,124 @@
+// The declarations of an image collected into tables by name, after typing.rs: collect_decls and collect_regs.
+ghost use mathlib.Core.Path.{_≡_};
+ghost use mathlib.Core.List.{[], _∷_, _++_, map};
+ghost use mathlib.Core.Bool.{Bool, true, false};
+ghost use Prim.Native.Nat.{ℕ, _+_, _*_, _<_, _≤_};
+ghost use lib.ListN.{length, getD, set};
+ghost use lib.Dec.{eqb};
+ghost use Rattle.rules.specs.Items.{le4};
+ghost use Rattle.rules.specs.Checking.{argument, latest, repeated, repeats, sizeOf, redeclared};
+ghost use Rattle.views.specs.View.{operandIn, namedIn, rowIn, rest};
+ghost use Rattle.output.specs.Sinks.{Said};
+ghost use Rattle.tables.specs.Tables.{regIn, rowSet};
+ghost use Rattle.collect.specs.Collected.{namedKind, regErrorsBy, kindOf};
+
+use items::byte_at;
+use items::four_at;
+use output::Sink;
+use passes::then_inside;
+use passes::Step;
+use rules::Found;
+use rules::FoundGate;
+use rules::Operand;
+use rules::Reg;
+use tables::find_gate;
+use tables::find_reg;
+use tables::set_gate;
+use tables::set_reg;
+use views::load;
+use views::name;
+use views::next;
+use views::operand;
+
+// ---- registers
+
+// A register's size: its index, and 1 where there is none.
+fn size_of(o: Operand) -> u64
+    ensures { λ r. ⌜ r ≡ sizeOf o ⌝ }
+{
+    if o.indexed { o.index } else { 1 }
+}
+
+// 6 where the name was declared before.
+fn tell_again(out: &mut [u8], s: Sink, f: Found, o: Operand, decl: u64) -> Sink
+    ensures { λ r. ⌜ Said (now (out .entry)) s (redeclared f o decl) (now (out .exit)) r ⌝ }
+{
+    match f {
+        Found::Nothing => s,
+        Found::Row(prev) => output::redefined_register(out, s, o, decl, prev.span),
+    }
+}
+
+// 5 for size 0, then 6.
+fn tell_register(out: &mut [u8], s: Sink, o: Operand, decl: u64, t: &[u64]) -> Sink
+    ensures { λ r. ⌜ Said (now (out .entry)) s (regErrorsBy (regIn (now (t .entry)) (o .name)) decl o) (now (out .exit)) r ⌝ }
+{
+    let f = find_reg(t, o.name);
+    if size_of(o) == 0 {
+        let a = output::zero_size_register(out, s, o.span, decl);
+        return tell_again(out, a, f, o, decl);
+    }
+    tell_again(out, s, f, o, decl)
+}
+
+// 1 for a quantum register, 2 for a classical one.
+fn kind_of(tag: u64) -> u64
+    ensures { λ r. ⌜ r ≡ kindOf (eqb tag 4) ⌝ }
+{
+    if tag == 4 { 2 } else { 1 }
+}
+
+// ---- headers
+
+// The latest of the first k names of a row that is x, as a body would see it.
+fn earlier(p: &[u8], from: usize, k: u64, x: u64) -> Found
+    requires { ⌜ (from ≤ 2000) × (k ≤ 255) ⌝ }
+    ensures { λ r. ⌜ r ≡ latest (map argument (rowIn namedIn 6 k (now (p .entry)) from)) x ⌝ }
+{
+    let mut i = k;
+    while 0 < i {
+        i -= 1;
+        let at = from + 6 * i as usize;
+        if name(p, at + 4) == x {
+            return Found::Row(Reg {
+                name: x,
+                span: four_at(p, at),
+                classical: false,
+                size: 1,
+            });
+        }
+    }
+    Found::Nothing
+}
+
+// 2 for an argument, 3 for a parameter, where its name stood before.
+fn tell_repeat(out: &mut [u8], s: Sink, arguments: bool, f: Found, span: u64, x: u64, decl: u64) -> Sink
+    ensures { λ r. ⌜ Said (now (out .entry)) s (repeated (namedKind arguments) decl f (record { span = span; name = x })) (now (out .exit)) r ⌝ }
+{
+    match f {
+        Found::Nothing => s,
+        Found::Row(prev) => {
+            if arguments {
+                return output::redefined_argument(out, s, span, x, decl, prev.span);
+            }
+            output::redefined_parameter(out, s, span, x, decl, prev.span)
+        }
+    }
+}
+
+// The repeated names of a row of k.
+fn tell_repeats(out: &mut [u8], s: Sink, arguments: bool, p: &[u8], from: usize, k: u64, decl: u64) -> Sink
+    requires { ⌜ (from ≤ 2000) × (k ≤ 255) ⌝ }
+    ensures { λ r. ⌜ Said (now (out .entry)) s (repeats (namedKind arguments) decl [] (rowIn namedIn 6 k (now (p .entry)) from)) (now (out .exit)) r ⌝ }
+{
+    let mut i = 0;
+    let mut r = s;
+    while i < k {
+        let at = from + 6 * i as usize;
+        let x = name(p, at + 4);
+        let f = earlier(p, from, i, x);
+        r = tell_repeat(out, r, arguments, f, four_at(p, at), x, decl);
+        i += 1;
+    }
+    r
+}
