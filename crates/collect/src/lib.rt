@@ -10,13 +10,13 @@ ghost use Rattle.rules.specs.Checking.{argument, latest, repeated, repeats, siz
 ghost use Rattle.views.specs.View.{operandIn, namedIn, rowIn, rest};
 ghost use Rattle.output.specs.Sinks.{Said};
 ghost use Rattle.tables.specs.Tables.{regIn, rowSet};
-ghost use Rattle.collect.specs.Collected.{namedKind, regErrorsBy, kindOf};
+ghost use Rattle.collect.specs.Collected.{namedKind, regErrorsBy, kindOf, RegMoves, RegsDone};
+ghost use Rattle.rules.specs.Reading.{isReg};
 
 use items::byte_at;
 use items::four_at;
 use output::Sink;
 use passes::then_inside;
-use passes::Step;
 use rules::Found;
 use rules::FoundGate;
 use rules::Operand;
@@ -66,6 +66,69 @@ fn kind_of(tag: u64) -> u64
     ensures { λ r. ⌜ r ≡ kindOf (eqb tag 4) ⌝ }
 {
     if tag == 4 { 2 } else { 1 }
+}
+
+pub fn is_reg(tag: u64) -> bool
+    ensures { λ r. ⌜ r ≡ isReg tag ⌝ }
+{
+    if tag == 3 {
+        return true;
+    }
+    tag == 4
+}
+
+// The registers by name, and how many register fields there are.
+pub struct Regs {
+    pub rows: [u64; 2048],
+    pub count: usize,
+}
+
+// What one field does to a collection: the place after it, whether a body is open then, the rows so far, and the counts.
+pub struct Turn {
+    pub next: usize,
+    pub inside: bool,
+    pub count: usize,
+    pub sink: Sink,
+}
+
+// One field: a register is entered after its errors are told; the later one wins.
+fn reg_step(out: &mut [u8], s: Sink, img: &[u8], at: usize, inside: bool, t: &mut [u64], count: usize) -> Turn
+    requires { ⌜ (at < length (now img)) × (count ≤ at) ⌝ }
+    ensures { λ r. ⌜ RegMoves (now (img .entry)) inside at count (now (t .entry)) (now (out .entry)) s (now (t .exit)) (now (out .exit)) r ⌝ }
+{
+    let tag = byte_at(img, at);
+    let p = load(img, at);
+    let behind = next(img, at);
+    let open = then_inside(inside, tag, p);
+    if inside {
+        return Turn { next: behind, inside: open, count: count, sink: s };
+    }
+    if is_reg(tag) {
+        let o = operand(p, 4);
+        let r = tell_register(out, s, o, four_at(p, 0), t);
+        set_reg(t, o.name, kind_of(tag), o.span, size_of(o));
+        return Turn { next: behind, inside: open, count: count + 1, sink: r };
+    }
+    Turn { next: behind, inside: open, count: count, sink: s }
+}
+
+pub struct RegsRead {
+    pub regs: Regs,
+    pub sink: Sink,
+}
+
+// The registers of the image, with their errors.
+pub fn collect_regs(out: &mut [u8], s: Sink, img: &[u8]) -> RegsRead
+    ensures { λ r. ⌜ RegsDone (now (img .entry)) (now (out .entry)) s (now (out .exit)) r ⌝ }
+{
+    let mut rows = [0u64; 2048];
+    let mut w = Turn { next: 0, inside: false, count: 0, sink: s };
+    while w.next < img.len() {
+        w = reg_step(out, w.sink, img, w.next, w.inside, &mut rows, w.count);
+    }
+    let r = w.sink;
+    let t = Regs { rows: rows, count: w.count };
+    RegsRead { regs: t, sink: r }
 }
 
 // ---- headers

@@ -5,9 +5,7 @@ use mathlib.Core.Bool.{Bool, true, false, _||_}
 use Prim.Native.Nat.{ℕ, zero, suc, _+_, _-_, _*_, _<_, _≤_}
 use native.Mathlib.Omega.{arith}
 use native.Mathlib.Nat.{mul-suc}
-use native.Mathlib.Decide.{decLt}
-use borrow.Author.Tests.{eq-eqb, ne-eqb, lt-ltb}
-use lib.ListN.{length, getD, replicate, length-replicate, getD-replicate, List·getD-eq-default}
+use lib.ListN.{length, getD}
 use lib.Dec.{eqb, ltb}
 use Rattle.rules.specs.declared.Reg.{Reg}
 use Rattle.rules.specs.declared.Found.{Found}
@@ -23,6 +21,7 @@ use Rattle.views.specs.Rows.{row-more, row-none, named-ends, name-on}
 use Rattle.output.specs.declared.Sink.{Sink}
 use Rattle.output.specs.Sinks.{Said}
 use Rattle.tables.specs.Tables.{gateIn, scopeIn, regIn, paramIn, rowSet, paramSet, rowSet-length, paramSet-length, reg-set, reg-set-param, param-set, param-set-reg}
+use Rattle.tables.specs.Zeros.{zeros-reg, zeros-param}
 use Rattle.passes.specs.Passes.{over, overs, ArgsSet, ParamsSet, Heads, BodyChecked}
 
 -- ---- what was entered is what the names mean
@@ -136,36 +135,6 @@ row-six : (k at : ℕ) → rowPast 6 k at ≡ at + 6 * k
 unfolding rowPast
 row-six zero at = omega arith
 row-six (suc k) at = row-six k (at + 6) ∙ (let e : at + 6 + 6 * k ≡ at + 6 * suc k = omega (arith, mul-suc 6 k) in e)
-
--- a table that is all zeros
-abbrev pub zeros : ℕ → List ℕ
-zeros n = replicate n 0
-
-pub zeros-length : (n : ℕ) → length (zeros n) ≡ n
-zeros-length n = length-replicate n 0
-
-pub zeros-word : (n i : ℕ) → getD (zeros n) i 0 ≡ 0
-zeros-word n i = elim (decLt i n) [
-  | yes h ↦ getD-replicate n i 0 0 h
-  | no h ↦ List·getD-eq-default (zeros n) 0 (let e : length (zeros n) ≡ n = length-replicate n 0 in omega arith)
-]
-
-module _ (t : List ℕ) (zero-all : (i : ℕ) → getD t i 0 ≡ 0) where
-  zeros-reg : (x : ℕ) → regIn t x ≡ Nothing
-  unfolding regIn
-  zeros-reg x = rw (zero-all (4 * x + 0)) (none (ltb x 512))
-    where
-      none : (b : Bool) → pick b Nothing Nothing ≡ Nothing
-      none true = refl
-      none false = refl
-
-  zeros-param : (x : ℕ) → paramIn t x ≡ false
-  unfolding paramIn
-  zeros-param x = rw (zero-all (4 * x + 3)) (none (ltb x 512))
-    where
-      none : (b : Bool) → pick b false false ≡ false
-      none true = refl
-      none false = refl
 
 -- the scope that a body is checked in is the one of its header
 pub body-scope : (gs : List Gate) (gates p : List ℕ) (l : List Field) (t₀ t₁ t₂ : List ℕ) (n k : ℕ) → length t₀ ≡ 2048 → ((i : ℕ) → getD t₀ i 0 ≡ 0) → Heads gs gates → n ≡ getD p 11 0 → k ≡ getD p 12 0

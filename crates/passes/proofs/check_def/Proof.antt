@@ -1,5 +1,6 @@
 use borrow.Author.Needs.{needs}
-use Rattle.passes.proofs.Scopes.{zeros, zeros-length, zeros-word, body-checked}
+use Rattle.tables.specs.Zeros.{zeros, zeros-length, zeros-word}
+use Rattle.passes.proofs.Scopes.{body-checked}
 use Rattle.passes.proofs.check_def.Statement.{statement}
 use Rattle.passes.proofs.check_def.Tie as tie
 
