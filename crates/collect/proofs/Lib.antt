@@ -1,2 +1,3 @@
 pub mod Names
 pub mod Registers
+pub mod Headers

@@ -117,7 +117,7 @@ module _ (img : List ℕ) (at : ℕ) (h : at < length img) (tag : ℕ) (et : tag
         within = omega arith;
         few = omega arith }
 
-none-left : (img : List ℕ) (i : Bool) (at : ℕ) → length img ≤ at → leftRegs img i at ≡ []
+pub none-left : (img : List ℕ) (i : Bool) (at : ℕ) → length img ≤ at → leftRegs img i at ≡ []
 unfolding decls
 none-left img true at h = rw (rest-end img at h) refl
 none-left img false at h = rw (rest-end img at h) refl

@@ -10,7 +10,7 @@ ghost use Rattle.rules.specs.Checking.{argument, latest, repeated, repeats, siz
 ghost use Rattle.views.specs.View.{operandIn, namedIn, rowIn, rest};
 ghost use Rattle.output.specs.Sinks.{Said};
 ghost use Rattle.tables.specs.Tables.{regIn, rowSet};
-ghost use Rattle.collect.specs.Collected.{namedKind, regErrorsBy, kindOf, RegMoves, RegsDone};
+ghost use Rattle.collect.specs.Collected.{namedKind, regErrorsBy, kindOf, RegMoves, RegsDone, GateEntered, HeaderDone, DeclMoves, GatesDone};
 ghost use Rattle.rules.specs.Reading.{isReg};
 
 use items::byte_at;
@@ -25,6 +25,7 @@ use tables::find_gate;
 use tables::find_reg;
 use tables::set_gate;
 use tables::set_reg;
+use tables::store;
 use views::load;
 use views::name;
 use views::next;
@@ -184,4 +185,89 @@ fn tell_repeats(out: &mut [u8], s: Sink, arguments: bool, p: &[u8], from: usize,
         i += 1;
     }
     r
+}
+
+// The gates by name, the declaration span of each by number, and how many there are.
+pub struct Gates {
+    pub rows: [u64; 2048],
+    pub defs: [u64; 128],
+    pub count: usize,
+}
+
+// A first entry: its repeated names are told, and it gets the next number.
+fn enter_gate(out: &mut [u8], s: Sink, p: &[u8], t: &mut [u64], defs: &mut [u64], count: usize) -> Sink
+    requires { ⌜ count < 18446744073709551615 ⌝ }
+    ensures { λ r. ⌜ GateEntered (now (p .entry)) count (now (t .entry)) (now (defs .entry)) (now (out .entry)) s (now (t .exit)) (now (defs .exit)) (now (out .exit)) r ⌝ }
+{
+    let decl = four_at(p, 0);
+    let params = byte_at(p, 11);
+    let args = byte_at(p, 12);
+    let a = tell_repeats(out, s, true, p, 13 + 6 * params as usize, args, decl);
+    let b = tell_repeats(out, a, false, p, 13, params, decl);
+    set_gate(t, name(p, 8), count as u64 + 1, params, args, decl);
+    store(defs, count, decl);
+    b
+}
+
+// One header: 1 where the name was seen before, else a first entry.
+fn header_step(out: &mut [u8], s: Sink, p: &[u8], t: &mut [u64], defs: &mut [u64], count: usize) -> Counted
+    requires { ⌜ count < 18446744073709551615 ⌝ }
+    ensures { λ r. ⌜ HeaderDone (now (p .entry)) count (now (t .entry)) (now (defs .entry)) (now (out .entry)) s (now (t .exit)) (now (defs .exit)) (now (out .exit)) r ⌝ }
+{
+    let x = name(p, 8);
+    match find_gate(t, x) {
+        FoundGate::Known(h) => {
+            let r = output::redefined_gate(out, s, four_at(p, 4), x, four_at(p, 0), h.decl);
+            Counted { count: count, sink: r }
+        }
+        FoundGate::Unknown => {
+            let r = enter_gate(out, s, p, t, defs, count);
+            Counted { count: count + 1, sink: r }
+        }
+    }
+}
+
+pub struct Counted {
+    pub count: usize,
+    pub sink: Sink,
+}
+
+// One field: a header, outside a body.
+fn decl_step(out: &mut [u8], s: Sink, img: &[u8], at: usize, inside: bool, t: &mut [u64], defs: &mut [u64], count: usize) -> Turn
+    requires { ⌜ (at < length (now img)) × (count ≤ at) ⌝ }
+    ensures { λ r. ⌜ DeclMoves (now (img .entry)) inside at count (now (t .entry)) (now (defs .entry)) (now (out .entry)) s (now (t .exit)) (now (defs .exit)) (now (out .exit)) r ⌝ }
+{
+    let tag = byte_at(img, at);
+    let p = load(img, at);
+    let behind = next(img, at);
+    let open = then_inside(inside, tag, p);
+    if inside {
+        return Turn { next: behind, inside: open, count: count, sink: s };
+    }
+    if tag == 5 {
+        let c = header_step(out, s, p, t, defs, count);
+        let r = c.sink;
+        return Turn { next: behind, inside: open, count: c.count, sink: r };
+    }
+    Turn { next: behind, inside: open, count: count, sink: s }
+}
+
+pub struct GatesRead {
+    pub gates: Gates,
+    pub sink: Sink,
+}
+
+// The gates of the image, with the errors of their headers.
+pub fn collect_decls(out: &mut [u8], s: Sink, img: &[u8]) -> GatesRead
+    ensures { λ r. ⌜ GatesDone (now (img .entry)) (now (out .entry)) s (now (out .exit)) r ⌝ }
+{
+    let mut rows = [0u64; 2048];
+    let mut defs = [0u64; 128];
+    let mut w = Turn { next: 0, inside: false, count: 0, sink: s };
+    while w.next < img.len() {
+        w = decl_step(out, w.sink, img, w.next, w.inside, &mut rows, &mut defs, w.count);
+    }
+    let r = w.sink;
+    let g = Gates { rows: rows, defs: defs, count: w.count };
+    GatesRead { gates: g, sink: r }
 }

@@ -73,7 +73,7 @@ pub fn is_param(t: &[u64], x: u64) -> bool
 }
 
 // A word stored, where the table has one.
-fn store(t: &mut [u64], i: usize, v: u64)
+pub fn store(t: &mut [u64], i: usize, v: u64)
     ensures { λ _. ⌜ now (t .exit) ≡ set (now (t .entry)) i v ⌝ }
 {
     if i < t.len() {
