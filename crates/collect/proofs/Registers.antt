@@ -24,11 +24,11 @@ use Rattle.views.specs.View.{nameIn, operandIn, nextIn, rest, rest-end}
 use Rattle.views.specs.Steps.{then, inside-here, reg-here, regs-skip}
 use Rattle.output.specs.declared.Sink.{Sink}
 use Rattle.output.specs.Sinks.{Said, put-none, Owes, owes-all, owes-less, owes-none}
-use Rattle.tables.specs.Tables.{regIn, rowSet, rowSet-length, reg-set}
+use Rattle.tables.specs.Tables.{regIn, paramIn, rowSet, rowSet-length, reg-set, reg-set-param}
 use Rattle.collect.specs.declared.Turn.{Turn}
 use Rattle.collect.specs.Collected.{regErrorsBy, kindOf, Finds, leftRegs, RegTurn, RegMoves, RegsDone}
 use Rattle.collect.proofs.Names.{latest-snoc}
-use Rattle.tables.specs.Zeros.{zeros-reg}
+use Rattle.tables.specs.Zeros.{zeros-reg, zeros-param}
 
 pub reg-three : (t : ℕ) → t ≡ 3 → true ≡ isReg t
 reg-three t e = rw e refl
@@ -64,7 +64,8 @@ entered-finds rs t c o small f t′ q = record {
   finds = λ x.
       let here : regIn t′ x ≡ pick (eqb (o .name) x) (Row (register c o)) (regIn t x) =
             rw (q, reg-set t (f .full) (o .name) small (kindOf c) (o .span) (sizeOf o) x (some c), kind-is c) refl in
-      latest-snoc rs (register c o) x ∙ ap (λ z. pick (eqb (o .name) x) (Row (register c o)) z) (f .finds x) ∙ sym here }
+      latest-snoc rs (register c o) x ∙ ap (λ z. pick (eqb (o .name) x) (Row (register c o)) z) (f .finds x) ∙ sym here;
+  params = λ x. ap (λ z. paramIn z x) q ∙ reg-set-param t (f .full) (o .name) small (kindOf c) (o .span) (sizeOf o) x ∙ f .params x }
   where
     some : (c : Bool) → kindOf c ≡ 0 → ⊥
     some true e = omega arith
@@ -138,7 +139,7 @@ unfolding latest
 regs-start img b t s full zero-all = record {
   long = refl;
   found = [];
-  finds = record { full = full; finds = λ x. sym (zeros-reg t zero-all x) };
+  finds = record { full = full; finds = λ x. sym (zeros-reg t zero-all x); params = zeros-param t zero-all };
   owes = owes-all errorField _ _ _;
   listed = refl;
   counted = refl;

@@ -22,7 +22,7 @@ use Rattle.collect.specs.declared.Turn.{Turn}
 use Rattle.collect.specs.declared.RegsRead.{RegsRead}
 use Rattle.collect.specs.declared.Counted.{Counted}
 use Rattle.collect.specs.declared.GatesRead.{GatesRead}
-use Rattle.tables.specs.Tables.{gateIn, regIn, rowSet}
+use Rattle.tables.specs.Tables.{gateIn, regIn, paramIn, rowSet}
 
 -- kind 2 for an argument, 3 for a parameter
 abbrev pub namedKind : (arguments : Bool) → ℕ → ℕ → ℕ → ℕ → Error
@@ -38,10 +38,11 @@ abbrev pub kindOf : (classical : Bool) → ℕ
 kindOf true = 2
 kindOf false = 1
 
--- the table holds what names mean by the registers rs
+-- the table holds what names mean by the registers rs; no name is a parameter
 pub record Finds (rs : List Reg) (t : List ℕ) : Type 0 where
   pub full : length t ≡ 2048
   pub finds : (x : ℕ) → latest rs x ≡ regIn t x
+  pub params : (x : ℕ) → paramIn t x ≡ false
 
 -- ---- a turn of the collection of registers, over those found so far
 
