@@ -362,12 +362,12 @@ field-is c small ns img at =
 
 -- ---- all fields
 
-more-is : (f : Field) (r : Fields) (l : List Field) → more f r ≡ fields l → (l′ : List Field) × (r ≡ fields l′) × (l ≡ f ∷ l′)
+pub more-is : (f : Field) (r : Fields) (l : List Field) → more f r ≡ fields l → (l′ : List Field) × (r ≡ fields l′) × (l ≡ f ∷ l′)
 unfolding more
 more-is f (refused k o) l p = let z : _≡_ {A = ℕ} 0 1 = cc in absurd (omega arith)
 more-is f (fields l′) l p = (l′, refl, cc)
 
-at-end : (b : Bool) (at : ℕ) (l : List Field) → pick b (refused 3 at) (fields []) ≡ fields l → l ≡ []
+pub at-end : (b : Bool) (at : ℕ) (l : List Field) → pick b (refused 3 at) (fields []) ≡ fields l → l ≡ []
 at-end true at l p = let z : _≡_ {A = ℕ} 0 1 = cc in absurd (omega arith)
 at-end false at l p = cc
 
@@ -396,7 +396,7 @@ is-within c ns img at f m p =
     (whole (payload (c .names) ns (getD img at 0)) (load-at img at) 0) (at + 3 + len-at img at) at f m p
 
 -- so the count of names stays within its limit
-names-within : (c : Counts) (p : List ℕ) (t : ℕ) → within c t ≡ true → c .names ≤ 512 → next c t p .names ≤ 512
+pub names-within : (c : Counts) (p : List ℕ) (t : ℕ) → within c t ≡ true → c .names ≤ 512 → next c t p .names ≤ 512
 unfolding next within
 names-within c p t h small = by (eqb t 1) refl
   where
@@ -429,12 +429,12 @@ from-is (suc k) c small ns img at l p = go (eqb at (length img)) refl (λ d few 
 
 -- ---- the bridge
 
-grouped-is : (r : Fields) (p : Program) → grouped r ≡ program p → (l : List Field) × (r ≡ fields l) × (p ≡ group l)
+pub grouped-is : (r : Fields) (p : Program) → grouped r ≡ program p → (l : List Field) × (r ≡ fields l) × (p ≡ group l)
 unfolding grouped
 grouped-is (refused k o) p e = let z : _≡_ {A = ℕ} 0 1 = cc in absurd (omega arith)
 grouped-is (fields l) p e = (l, refl, cc)
 
-not-long : (b : Bool) (r : Fields) (l : List Field) → pick b r (refused 2 0) ≡ fields l → r ≡ fields l
+pub not-long : (b : Bool) (r : Fields) (l : List Field) → pick b r (refused 2 0) ≡ fields l → r ≡ fields l
 not-long true r l p = p
 not-long false r l p = let z : _≡_ {A = ℕ} 0 1 = cc in absurd (omega arith)
 

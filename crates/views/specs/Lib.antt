@@ -3,3 +3,4 @@ pub mod Tags
 pub mod Rows
 pub mod Steps
 pub mod Bridge
+pub mod Limits

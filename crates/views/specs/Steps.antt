@@ -75,7 +75,7 @@ plain-high t a = go (leb 16 t) refl
     go true e = leb-true 16 t e
     go false e = let z : _≡_ {A = Bool} false true = rw e at a in absurd (subst T (sym z) tt)
 
-plain-not5 : (t : ℕ) → isPlain t ≡ true → eqb t 5 ≡ false
+pub plain-not5 : (t : ℕ) → isPlain t ≡ true → eqb t 5 ≡ false
 plain-not5 t a = let h = plain-high t a in ne-eqb t 5 (omega arith)
 
 plain-not6 : (t : ℕ) → isPlain t ≡ true → eqb t 6 ≡ false
