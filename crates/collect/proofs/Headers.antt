@@ -300,4 +300,5 @@ decls-done img b₀ s₀ b t defs w o h =
     record {
       said = owes-none errorField (o .owes) (ap (declErrors (o .found)) e);
       holds = subst (λ (l : List Gate). Holds l t defs) f (o .holds);
-      count = o .counted ∙ ap length f }
+      count = o .counted ∙ ap length f;
+      spans = o .spans }

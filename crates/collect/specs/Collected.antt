@@ -114,3 +114,4 @@ pub record GatesDone (img b : List ℕ) (s : Sink) (b′ : List ℕ) (r : GatesR
   pub said : Said b s (declErrors [] (leftRegs img false 0)) b′ (r .sink)
   pub holds : Holds (entries [] (leftRegs img false 0)) (r .gates .rows) (r .gates .defs)
   pub count : r .gates .count ≡ length (entries [] (leftRegs img false 0))
+  pub spans : length (r .gates .defs) ≡ 128
