@@ -8,6 +8,7 @@ if ! grep -q '^admit:' crates.txt; then
 fi
 [ -x target/bin/admit ] || rt check admit >/dev/null
 for image in examples/*.image; do
-    printf '%s: ' "$(basename "$image")"
-    target/bin/admit <"$image" | od -An -c -w64 | sed 's/  */ /g'
+    target/bin/admit <"$image" >target/example
+    printf '%s: %s\n' "$(basename "$image")" "$(head -n 1 target/example)"
+    tail -n +2 target/example | od -An -tx1 -w32
 done
