@@ -1,20 +1,20 @@
 #!/bin/bash
-# All tests of this folder. Quiet where they pass; fails where one does. The part that needs the Rust's source is left out, with a
-# line that says so, where the source is not there.
+# All tests of this folder. Quiet where they pass; fails where one does. What needs the Rust's source, the sample answers or the proved
+# library's archive is left out, with a line that says so, where that is not there.
 set -euo pipefail
 
 # Folders are named from where the caller stands.
-for variable in PESUKOYMI_RUST PESUKOYMI_VECTORS; do
+for variable in PESUKOYMI_RUST PESUKOYMI_VECTORS PESUKOYMI_ARCHIVE; do
     if [ -n "${!variable:-}" ]; then export "$variable=$(realpath -m "${!variable}")"; fi
 done
 
 cd "$(dirname "$0")"
 ./install.sh
 
-packages=(-p model)
 if [ -f "${PESUKOYMI_RUST:-../../shared/docs/src}/typing.rs" ]; then
-    packages+=(-p oracle)
+    packages=(-p model -p oracle -p compare)
 else
+    packages=(-p model -p compare --no-default-features)
     echo "left out: the comparison with the Rust, whose source is not beside the repository"
 fi
 

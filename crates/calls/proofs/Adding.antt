@@ -1,15 +1,15 @@
 -- Calls put into the rows, one after another.
-use mathlib.Core.Path.{_≡_, refl, sym, ap, ap₂, _∙_, subst}
+use mathlib.Core.Path.{_≡_, refl, sym, ap, _∙_, subst}
 use mathlib.Core.Logic.{_≢_}
-use mathlib.Core.Bool.{Bool, true, false, not, _&&_, _||_, or-false, or-assoc}
+use mathlib.Core.Bool.{Bool, true, false, not, _&&_, _||_, or-false, or-true, or-assoc, and-false}
 use mathlib.Core.List.{List, [], _∷_, _++_}
-use Prim.Native.Nat.{ℕ, zero, suc, _+_, _-_, _*_, _≤_, _<_}
-use native.Mathlib.Decide.{ℕ-discrete, decLt}
+use Prim.Native.Nat.{ℕ, _+_, _*_, _≤_, _<_}
+use native.Mathlib.Decide.{ℕ-discrete}
 use native.Mathlib.Omega.{arith}
-use borrow.Author.Tests.{lt-ltb, le-ltb, eq-eqb, ne-eqb, ltb-true, ltb-false}
+use borrow.Author.Tests.{lt-ltb, le-ltb, eq-eqb, ne-eqb, ltb-false}
 use lib.ListN.{length, getD, set, length-set}
-use lib.Seq.{getD-set-same, getD-set-other, set-out}
-use lib.Dec.{T, eqb, ltb, eqb→eq, eqb-refl}
+use lib.Seq.{getD-set-same, getD-set-other}
+use lib.Dec.{T, eqb, ltb}
 use Rattle.rules.specs.declared.Header.{Header}
 use Rattle.rules.specs.declared.FoundGate.{FoundGate}
 use Rattle.rules.specs.declared.FoundGate.the-variants.{Known, Unknown}
@@ -18,7 +18,7 @@ use Rattle.rules.specs.Items.{le4}
 use Rattle.rules.specs.Syntax.{Gate, call}
 use Rattle.rules.specs.Checking.{gateAt, numberOf, isGate, headerOf, header}
 use Rattle.rules.specs.Calls.{Call, stmtCalls, between, edge, earliest}
-use Rattle.theorems.specs.Search.{and-T, T-and, first-le}
+use Rattle.theorems.specs.Search.{first-le, pick-same}
 use Rattle.views.specs.View.{nameIn, callIn}
 use Rattle.tables.specs.Tables.{gateIn}
 use Rattle.graph.specs.Rows.{calls, NoCalls, OneMore}
@@ -60,11 +60,7 @@ pub ruleset number-laws = (number-known, number-none)
 
 pub added-none : (t s : List ℕ) → length t ≡ 256 → Added [] t t s s
 unfolding edge
-added-none t s e = record { size = e; long = refl; rows = λ a b x y. sym (or-false (calls t a b)); spans = λ r a b x y. kept (calls t a b) (getD s (128 * a + b) 0) }
-  where
-    kept : (b : Bool) (v : ℕ) → v ≡ pick b v v
-    kept true v = refl
-    kept false v = refl
+added-none t s e = record { size = e; long = refl; rows = λ a b x y. sym (or-false (calls t a b)); spans = λ r a b x y. sym (pick-same (calls t a b) (getD s (128 * a + b) 0)) }
 
 module _ (u w sp : ℕ) (t s : List ℕ) where
   abbrev one : Call
@@ -73,13 +69,9 @@ module _ (u w sp : ℕ) (t s : List ℕ) where
   -- by and of other gates
   other : (a b : ℕ) → (a ≡ u → b ≡ w → ⊥) → between one a b ≡ false
   other a b f = elim (ℕ-discrete u a) [
-    | yes p ↦ elim (ℕ-discrete w b) [ yes q ↦ absurd (f (sym p) (sym q)) | no q ↦ rw (ne-eqb w b q) (none (eqb u a)) ]
+    | yes p ↦ elim (ℕ-discrete w b) [ yes q ↦ absurd (f (sym p) (sym q)) | no q ↦ rw (ne-eqb w b q) (and-false (eqb u a)) ]
     | no p ↦ rw (ne-eqb u a p) refl
   ]
-    where
-      none : (x : Bool) → (x && false) ≡ false
-      none true = refl
-      none false = refl
 
   itself : between one u w ≡ true
   itself = rw (eq-eqb u u refl, eq-eqb w w refl) refl
@@ -93,7 +85,7 @@ module _ (u w sp : ℕ) (t s : List ℕ) where
     long = long;
     rows = λ a b x y. elim (ℕ-discrete a u) [
       | yes p ↦ elim (ℕ-discrete b w) [
-        | yes q ↦ rw (p, q, itself, new (rw p at x) (rw q at y) .0) (sym (full (calls t u w)))
+        | yes q ↦ rw (p, q, itself, new (rw p at x) (rw q at y) .0) (sym (or-true (calls t u w)))
         | no q ↦ apart a b x y (λ _ z. q z)
       ]
       | no p ↦ apart a b x y (λ z _. p z)
@@ -101,20 +93,12 @@ module _ (u w sp : ℕ) (t s : List ℕ) where
     spans = λ r a b x y. elim (ℕ-discrete a u) [
       | yes p ↦ elim (ℕ-discrete b w) [
         | yes q ↦ rw (p, q, itself) (new (rw p at x) (rw q at y) .1 r)
-        | no q ↦ rw (other a b (λ _ z. q z)) (old a b x y (λ _ z. q z) .1 r ∙ same (calls t a b) (getD s (128 * a + b) 0))
+        | no q ↦ rw (other a b (λ _ z. q z)) (old a b x y (λ _ z. q z) .1 r ∙ sym (pick-same (calls t a b) (getD s (128 * a + b) 0)))
       ]
-      | no p ↦ rw (other a b (λ z _. p z)) (old a b x y (λ z _. p z) .1 r ∙ same (calls t a b) (getD s (128 * a + b) 0))
+      | no p ↦ rw (other a b (λ z _. p z)) (old a b x y (λ z _. p z) .1 r ∙ sym (pick-same (calls t a b) (getD s (128 * a + b) 0)))
     ];
   }
     where
-      full : (b : Bool) → (b || true) ≡ true
-      full true = refl
-      full false = refl
-
-      same : (b : Bool) (v : ℕ) → v ≡ pick b v v
-      same true v = refl
-      same false v = refl
-
       apart : (a b : ℕ) → a < 128 → b < 128 → (a ≡ u → b ≡ w → ⊥) → calls t′ a b ≡ (calls t a b || (between one a b || false))
       apart a b x y f = rw (other a b f) (old a b x y f .0 ∙ sym (or-false (calls t a b)))
 
@@ -134,15 +118,17 @@ module _ (u w sp : ℕ) (t s : List ℕ) where
     pub add-new : c ≡ false → (s′ t′ : List ℕ) → s′ ≡ set s (128 * u + w) sp → OneMore u w t t′ → Added (one ∷ []) t t′ s s′
     add-new e s′ t′ g O =
         keeps t′ s′ (O .size) (ap length g ∙ length-set s (128 * u + w) sp)
-        (λ a b x y f. (O .now a b x y ∙ ap (λ (z : Bool). calls t a b || z) (other a b f) ∙ or-false (calls t a b), λ r.
-        let n : 128 * a + b ≢ 128 * u + w = λ z. f (omega arith) (omega arith) in
-        ap (λ (l : List ℕ). getD l (128 * a + b) 0) g ∙ getD-set-other s (128 * u + w) (128 * a + b) sp 0 n))
-        (λ x y. (O .now u w x y ∙ ap (λ (z : Bool). calls t u w || z) itself ∙ full (calls t u w), λ r.
-        rw (← was, e) (ap (λ (l : List ℕ). getD l (128 * u + w) 0) g ∙ getD-set-same s (128 * u + w) sp 0 (omega arith))))
-      where
-        full : (b : Bool) → (b || true) ≡ true
-        full true = refl
-        full false = refl
+        (λ a b x y f. (
+          O .now a b x y ∙ ap (λ (z : Bool). calls t a b || z) (other a b f) ∙ or-false (calls t a b),
+          λ r.
+              let n : 128 * a + b ≢ 128 * u + w = λ z. f (omega arith) (omega arith) in
+              ap (λ (l : List ℕ). getD l (128 * a + b) 0) g ∙ getD-set-other s (128 * u + w) (128 * a + b) sp 0 n,
+        ))
+        (λ x y. (
+          O .now u w x y ∙ ap (λ (z : Bool). calls t u w || z) itself ∙ or-true (calls t u w),
+          λ r.
+              rw (← was, e) (ap (λ (l : List ℕ). getD l (128 * u + w) 0) g ∙ getD-set-same s (128 * u + w) sp 0 (omega arith)),
+        ))
 
 pub ruleset add-laws = (add-out, add-past, add-had, add-new)
 

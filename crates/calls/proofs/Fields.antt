@@ -1,21 +1,20 @@
 -- What a field adds to the calls, for any fields.
-use mathlib.Core.Path.{_≡_, refl, sym, ap, ap₂, _∙_, subst}
-use mathlib.Core.Bool.{Bool, true, false, not}
+use mathlib.Core.Path.{_≡_, refl, ap, subst}
+use mathlib.Core.Bool.{Bool, true, false}
 use mathlib.Core.List.{List, [], _∷_, _++_, append-assoc}
-use mathlib.Core.Option.{some, none}
 use Prim.Native.Nat.{ℕ, _<_, _≤_}
 use native.Mathlib.Decide.{ℕ-discrete}
-use borrow.Author.Tests.{eq-eqb, ne-eqb}
+use borrow.Author.Tests.{ne-eqb}
 use lib.ListN.{length, getD}
 use lib.Dec.{T, eqb}
 use Rattle.rules.specs.Basics.{pick}
-use Rattle.rules.specs.Reading.{load-at, isStmt}
+use Rattle.rules.specs.Reading.{load-at}
 use Rattle.rules.specs.Syntax.{Gate, Field, nameF, includeF, regF, gateF, endF, stmtF, ifF}
 use Rattle.rules.specs.Grouping.{stmt, stmts, bodyOf, decls}
 use Rattle.rules.specs.Checking.{numberOf}
 use Rattle.rules.specs.Calls.{Call, stmtCalls, stmtsCalls, bodyCalls, declCalls}
 use Rattle.views.specs.View.{nameIn, callIn, uIn, barrierIn, gateIn, ifIn, stmtIn, isPlain, fieldIn, nextIn, rest, rest-end}
-use Rattle.views.specs.Tags.{Unknown, by-tag}
+use Rattle.views.specs.Tags.{by-tag}
 use Rattle.views.specs.Steps.{then, gateAtPlace, here, body-end, inside-here, gate-here, gates-skip}
 use Rattle.calls.specs.declared.Place.{Place}
 use Rattle.calls.specs.Collecting.{callsIn, Added, Numbered, fieldCalls, placeAfter, callsFrom, Visited}

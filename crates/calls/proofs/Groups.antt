@@ -1,21 +1,20 @@
 -- The groups' errors: what the tables of the code say is what the rules say.
-use mathlib.Core.Path.{_≡_, refl, sym, ap, ap₂, _∙_, subst, fun-ext}
+use mathlib.Core.Path.{_≡_, refl, sym, ap, _∙_, subst, fun-ext}
 use mathlib.Core.Logic.{inl, inr}
-use mathlib.Core.Bool.{Bool, true, false, _&&_}
-use mathlib.Core.List.{List, [], _∷_, _++_, map}
-use Prim.Native.Nat.{ℕ, zero, suc, _+_, _-_, _*_, _≤_, _<_, min}
+use mathlib.Core.Bool.{Bool, true, false}
+use mathlib.Core.List.{List, [], _∷_, map}
+use Prim.Native.Nat.{ℕ, zero, suc, _+_, _*_, _≤_, _<_, min}
 use native.Mathlib.Nat.{not-suc-le-zero, le-of-suc-le-suc}
 use native.Mathlib.Decide.{decLt}
 use native.Mathlib.Numerals.{add-one}
 use native.Mathlib.Omega.{arith}
 use borrow.Author.Tests.{lt-ltb, le-ltb}
-use lib.ListN.{length, getD, take, drop, length-take, drop-of-length-le}
+use lib.ListN.{length, getD, take, drop, drop-of-length-le}
 use lib.Seq.{drop-cons, getD-take, take-all, length-take-le}
 use lib.Dec.{T, ltb}
 use Rattle.rules.specs.Basics.{pick}
 use Rattle.rules.specs.Syntax.{Gate}
 use Rattle.rules.specs.Errors.{Error, errorField, recursiveDefinition}
-use Rattle.rules.specs.Checking.{gateAt}
 use Rattle.rules.specs.Graph.{reaches, leaders, cycle}
 use Rattle.rules.specs.Order.{order}
 use Rattle.rules.specs.Calls.{Call, edge, earliest, pairs, groupError, recursionErrors}
@@ -26,7 +25,7 @@ use Rattle.output.specs.declared.Sink.{Sink}
 use Rattle.output.specs.Sinks.{Said, put-none, Owes, owes-all, owes-less, owes-none}
 use Rattle.graph.specs.declared.Gates.{Gates}
 use Rattle.graph.specs.Rows.{calls, linked, listed}
-use Rattle.calls.specs.Collecting.{Numbered, callsIn, Has}
+use Rattle.calls.specs.Collecting.{Numbered, Has}
 use Rattle.calls.specs.Telling.{spanBy, pairsBy, Defined, Shown}
 
 -- ---- the graph

@@ -1,14 +1,12 @@
 -- A cycle's field: its pairs of spans.
-use mathlib.Core.Path.{_≡_, refl, sym, ap, ap₂, _∙_, subst}
-use mathlib.Core.List.{List, [], _∷_, _++_, append-assoc}
-use Prim.Native.Nat.{ℕ, zero, suc, _+_, _*_, _≤_, _<_}
+use mathlib.Core.Path.{_≡_, refl, sym, ap, _∙_, subst}
+use mathlib.Core.List.{List, [], _∷_, _++_}
+use Prim.Native.Nat.{ℕ, _+_, _*_, _≤_, _<_}
 use native.Mathlib.Numerals.{add-one}
 use native.Mathlib.Omega.{arith}
 use borrow.Author.Tests.{lt-ltb, le-ltb}
-use lib.ListN.{length, getD, drop, length-append, drop-of-length-le}
+use lib.ListN.{length, getD, drop, drop-of-length-le}
 use lib.Seq.{drop-cons}
-use lib.Dec.{ltb}
-use Rattle.rules.specs.Basics.{pick}
 use Rattle.rules.specs.Errors.{errorField, recursiveDefinition, bytes2, bytes4, pairBytes}
 use Rattle.output.specs.declared.Sink.{Sink}
 use Rattle.output.specs.Bytes.{plus, Wrote, wrote-none, wrote-then, wrote-2}

@@ -1,10 +1,9 @@
 -- The recursion errors, by the tables of the code.
 use Prim.Native.Nat.{ℕ, _+_, _*_, _≤_, _<_}
 use mathlib.Core.Path.{_≡_}
-use mathlib.Core.Bool.{Bool, true, false}
 use mathlib.Core.List.{List, [], _∷_}
 use lib.ListN.{length, getD}
-use lib.Dec.{T, ltb}
+use lib.Dec.{ltb}
 use Rattle.rules.specs.Basics.{pick}
 use Rattle.rules.specs.Syntax.{Gate}
 use Rattle.rules.specs.Checking.{gateAt}

@@ -29,8 +29,8 @@ use items::byte_at;
 use items::four_at;
 use output::Sink;
 use output::one_more;
-use output::put4;
 use output::put_head;
+use output::put4;
 use rules::FoundGate;
 use tables::find_gate;
 use views::is_one;
@@ -219,14 +219,7 @@ fn put_pairs(
 }
 
 // The error of a group, by the cycle that starts at g.
-fn tell_cycle(
-    out: &mut [u8],
-    s: Sink,
-    g: usize,
-    cycle: &[u64],
-    defs: &[u64],
-    spans: &[u64],
-) -> Sink
+fn tell_cycle(out: &mut [u8], s: Sink, g: usize, cycle: &[u64], defs: &[u64], spans: &[u64]) -> Sink
     requires { ⌜ length (now cycle) ≤ 128 ⌝ }
     ensures { λ r. ⌜ Said (now (out .entry)) s (recursiveDefinition (pairsBy (now (defs .entry)) (now (spans .entry)) g (now (cycle .entry))) ∷ []) (now (out .exit)) r ⌝ }
 {

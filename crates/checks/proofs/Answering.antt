@@ -50,11 +50,14 @@ module _ (img o none none′ : List ℕ) (j : Judged) (w : All img none none′ 
 
   pub room-short : length o < j .sink .bytes → Answered img o o (Room (j .sink .items) (j .sink .bytes))
   unfolding checkRead lay
-  room-short h = record { gives = λ p e.
-      let k : ltb (length o) (length (flat (map errorField (errors p)))) ≡ true = lt-ltb _ _ (rw (bytes-are p e) at h) in
-      record {
-        answer = rw k (ap₂ Room (items-are p e ∙ sym (fields-are p)) (bytes-are p e));
-        buffer = rw k refl } }
+  room-short h = record {
+    gives = λ p e.
+        let k : ltb (length o) (length (flat (map errorField (errors p)))) ≡ true = lt-ltb _ _ (rw (bytes-are p e) at h) in
+        record {
+          answer = rw k (ap₂ Room (items-are p e ∙ sym (fields-are p)) (bytes-are p e));
+          buffer = rw k refl;
+        };
+  }
 
   module _ (h : j .sink .bytes ≤ length o) where
     long : (p : Program) → read img ≡ program p → ltb (length o) (length (flat (map errorField (errors p)))) ≡ false
@@ -62,20 +65,25 @@ module _ (img o none none′ : List ℕ) (j : Judged) (w : All img none none′ 
 
     pub none-listed : j .sink .items ≡ 0 → Answered img o o (Done (j .sink .items) (j .sink .bytes))
     unfolding checkRead lay flat
-    none-listed z = record { gives = λ p e.
-        let q : errors p ≡ [] = nil-of (errors p) (sym (items-are p e) ∙ z) in
-        let c : j .sink .bytes ≡ 0 = bytes-are p e ∙ (rw q refl) in
-        let g : 0 ≤ length o = omega arith in
-        record { answer = rw (q, z, c, le-ltb (length o) 0 g) refl; buffer = rw (q, le-ltb (length o) 0 g) refl } }
+    none-listed z = record {
+      gives = λ p e.
+          let q : errors p ≡ [] = nil-of (errors p) (sym (items-are p e) ∙ z) in
+          let c : j .sink .bytes ≡ 0 = bytes-are p e ∙ (rw q refl) in
+          let g : 0 ≤ length o = omega arith in
+          record { answer = rw (q, z, c, le-ltb (length o) 0 g) refl; buffer = rw (q, le-ltb (length o) 0 g) refl };
+    }
 
     pub some-listed : (j .sink .items ≡ 0 → ⊥) → (o′ : List ℕ) (k : Judged) → All img o o′ k → Answered img o o′ (Errors (j .sink .items) (j .sink .bytes))
     unfolding checkRead lay
-    some-listed z o′ k v = record { gives = λ p e.
-        let m : eqb (length (map errorField (errors p))) 0 ≡ false = ne-eqb _ 0 (λ q. z (items-are p e ∙ sym (fields-are p) ∙ q)) in
-        let n : length (flat (map errorField (errors p))) ≤ length o = rw (bytes-are p e) at h in
-        record {
-          answer = rw (long p e, m) (ap₂ Errors (items-are p e ∙ sym (fields-are p)) (bytes-are p e));
-          buffer = rw (long p e) (v .said p e .wrote .buffer fits ∙ laid o (flat (map errorField (errors p))) n) } }
+    some-listed z o′ k v = record {
+      gives = λ p e.
+          let m : eqb (length (map errorField (errors p))) 0 ≡ false = ne-eqb _ 0 (λ q. z (items-are p e ∙ sym (fields-are p) ∙ q)) in
+          let n : length (flat (map errorField (errors p))) ≤ length o = rw (bytes-are p e) at h in
+          record {
+            answer = rw (long p e, m) (ap₂ Errors (items-are p e ∙ sym (fields-are p)) (bytes-are p e));
+            buffer = rw (long p e) (v .said p e .wrote .buffer fits ∙ laid o (flat (map errorField (errors p))) n);
+          };
+    }
 
 -- ---- the whole service
 

@@ -48,7 +48,8 @@ local-said img b s b₁ g dg b₂ t dt b₃ s₃ w₃ b₄ s₄ w₄ =
       said = put-then errorField (dg .said) (put-then errorField (dt .said) (put-then errorField w (w₄ .said gs (λ x. dg .holds .heads x))));
       holds = dg .holds;
       count = dg .count;
-      spans = dg .spans }
+      spans = dg .spans;
+    }
 
 -- ---- with recursion, for an image that is read
 
@@ -60,6 +61,7 @@ all-said img b b₁ j w n en b₂ s₂ rec = record { said = said; holds = λ p 
   where
     count : (p : Program) → read img ≡ program p → j .gates .count ≡ length (gatesOf p)
     count p e = w .count ∙ ap (λ q. length (gatesOf q)) (sym (bridge img p e))
+
     said : (p : Program) → read img ≡ program p → Said b start (errors p) b₂ s₂
     said p e =
         let same : p ≡ programIn img = bridge img p e in
@@ -67,6 +69,6 @@ all-said img b b₁ j w n en b₂ s₂ rec = record { said = said; holds = λ p 
         let gs : List Gate = gatesOf (programIn img) in
         let nm : n ≡ length gs = en ∙ w .count in
         let r = rec gs (record { count = nm; known = w .holds .heads })
-              (record { few = omega arith; decl = λ i h. w .holds .spans i (omega arith) (omega (arith, w .spans)) })
-              (subst (λ (m : ℕ). Within m (edge (callsOf (programIn img)))) (sym nm) (calls-within (programIn img))) in
+        (record { few = omega arith; decl = λ i h. w .holds .spans i (omega arith) (omega (arith, w .spans)) })
+        (subst (λ (m : ℕ). Within m (edge (callsOf (programIn img)))) (sym nm) (calls-within (programIn img))) in
         subst (λ (q : Program). Said b start (localErrors q ++ recursionErrors (gatesOf q) (declCalls (gatesOf q) (q .decls))) b₂ s₂) (sym same) (put-then errorField (w .said) r)

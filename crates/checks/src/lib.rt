@@ -3,13 +3,12 @@ ghost use mathlib.Core.Path.{_≡_};
 ghost use Prim.Native.Nat.{ℕ, _+_};
 ghost use Rattle.checks.specs.Told.{Local, All, Gives, Answered};
 ghost use Rattle.rules.specs.Answers.{check as checked};
-
 use calls::check_recursion;
+use collect::Gates;
 use collect::collect_decls;
 use collect::collect_regs;
-use collect::Gates;
-use image::read_image;
 use image::Verdict;
+use image::read_image;
 use output::Sink;
 use passes::check_defs;
 use passes::check_gates;
@@ -32,7 +31,10 @@ pub fn check_local(out: &mut [u8], s: Sink, img: &[u8]) -> Judged
     let rows = regs.rows;
     let a = check_gates(out, t.sink, img, &heads, &rows);
     let b = check_defs(out, a, img, &heads);
-    Judged { gates: gates, sink: b }
+    Judged {
+        gates: gates,
+        sink: b,
+    }
 }
 
 // All errors of an image that is read.
@@ -45,7 +47,10 @@ pub fn tell_errors(out: &mut [u8], img: &[u8]) -> Judged
     let heads = gates.rows;
     let defs = gates.defs;
     let r = check_recursion(out, j.sink, img, &heads, &defs, gates.count);
-    Judged { gates: gates, sink: r }
+    Judged {
+        gates: gates,
+        sink: r,
+    }
 }
 
 // The answer for an image that is read: its errors are counted first, over an empty buffer, and written where there is room for all of them.
@@ -56,13 +61,22 @@ fn check_read(image: &[u8], out: &mut [u8]) -> Answer
     let need = tell_errors(&mut none, image);
     let s = need.sink;
     if out.len() < s.bytes {
-        return Answer::Room { items: s.items, bytes: s.bytes };
+        return Answer::Room {
+            items: s.items,
+            bytes: s.bytes,
+        };
     }
     if s.items == 0 {
-        return Answer::Done { items: s.items, bytes: s.bytes };
+        return Answer::Done {
+            items: s.items,
+            bytes: s.bytes,
+        };
     }
     tell_errors(out, image);
-    Answer::Errors { errors: s.items, bytes: s.bytes }
+    Answer::Errors {
+        errors: s.items,
+        bytes: s.bytes,
+    }
 }
 
 // Checks an image of any bytes.
@@ -72,7 +86,10 @@ pub fn check(image: &[u8], out: &mut [u8]) -> Answer
     let read = read_image(image);
     let v = read.verdict;
     match v {
-        Verdict::Refused { number, offset } => Answer::Refused { number: number, offset: offset },
+        Verdict::Refused { number, offset } => Answer::Refused {
+            number: number,
+            offset: offset,
+        },
         Verdict::Read => check_read(image, out),
     }
 }

@@ -70,7 +70,7 @@ known-cases gs x = go (ltb (first (length gs) (λ i. eqb (gateAt gs i .name) x))
   where
     go : (b : Bool) → ltb (first (length gs) (λ i. eqb (gateAt gs i .name) x)) (length gs) ≡ b
         → ((first (length gs) (λ i. eqb (gateAt gs i .name) x) < length gs) × (gateAt gs (first (length gs) (λ i. eqb (gateAt gs i .name) x)) .name ≡ x))
-          ⊎ (pick (ltb (first (length gs) (λ i. eqb (gateAt gs i .name) x)) (length gs)) (Known (headerOf gs (first (length gs) (λ i. eqb (gateAt gs i .name) x)))) Unknown ≡ Unknown)
+        ⊎ (pick (ltb (first (length gs) (λ i. eqb (gateAt gs i .name) x)) (length gs)) (Known (headerOf gs (first (length gs) (λ i. eqb (gateAt gs i .name) x)))) Unknown ≡ Unknown)
     go true e = let h = ltb-true _ _ e in inl (h, eqb→eq _ x (first-true (length gs) (λ i. eqb (gateAt gs i .name) x) h))
     go false e = inr (rw e refl)
 
@@ -87,7 +87,7 @@ module _ (gs : List Gate) (g : Gate) (fresh : header gs (g .name) ≡ Unknown) w
   own =
       let h : length gs < length (gs ++ (g ∷ [])) = omega (arith, more gs g) in
       let n = number-is (gs ++ (g ∷ [])) g (g .name) (length gs) h (ap (λ x. x .name) (gate-new gs g))
-            (λ j l q. unknown gs g (g .name) fresh j l (ap (λ x. x .name) (sym (gate-old gs g j l)) ∙ q)) in
+      (λ j l q. unknown gs g (g .name) fresh j l (ap (λ x. x .name) (sym (gate-old gs g j l)) ∙ q)) in
       known-at (gs ++ (g ∷ [])) (g .name) (length gs) h n ∙ (rw (gate-new gs g) refl)
 
   others : (x : ℕ) → (g .name ≡ x → ⊥) → header (gs ++ (g ∷ [])) x ≡ header gs x
@@ -98,11 +98,12 @@ module _ (gs : List Gate) (g : Gate) (fresh : header gs (g .name) ≡ Unknown) w
           let r : ℕ = numberOf gs x in
           let h : r < length (gs ++ (g ∷ [])) = omega (arith, more gs g, k .0) in
           let n = number-is (gs ++ (g ∷ [])) g x r h (ap (λ y. y .name) (gate-old gs g r (k .0)) ∙ k .1)
-                (λ j l q. earlier-not j l (ap (λ y. y .name) (sym (gate-old gs g j (omega (arith, k .0)))) ∙ q)) in
+          (λ j l q. earlier-not j l (ap (λ y. y .name) (sym (gate-old gs g j (omega (arith, k .0)))) ∙ q)) in
           known-at (gs ++ (g ∷ [])) x r h n ∙ (rw (gate-old gs g r (k .0)) refl) ∙ sym (known-at gs x r (k .0) refl)
         where
           earlier-not : (j : ℕ) → j < numberOf gs x → gateAt gs j .name ≡ x → ⊥
           earlier-not j l q = not-before gs x j l q
+
       none : header gs x ≡ Unknown → header (gs ++ (g ∷ [])) x ≡ header gs x
       none u = ⊎-elim (λ k. absurd (there k)) (λ v. v ∙ sym u) (known-cases (gs ++ (g ∷ [])) x)
         where
@@ -135,7 +136,8 @@ module _ (gs : List Gate) (g : Gate) (fresh : header gs (g .name) ≡ Unknown) w
           let e : i ≡ length gs = omega (arith, more gs g) in
           let q : count < length defs = omega (arith, length-set defs count (g .decl), ap length ed) in
           rw (ed, e, gate-new gs g, ← ec) (getD-set-same defs count (g .decl) 0 q)
-    ] }
+    ];
+  }
 
 known-is : (gs : List Gate) (x : ℕ) (h : Header) → header gs x ≡ Known h → isGate gs x ≡ true
 unfolding header
@@ -174,7 +176,8 @@ unfolding argsIn paramsIn
 gate-entered p count t defs b s d ed n k en ek b₁ s₁ v b₂ s₂ w x ex t′ et defs′ es = record {
   said = rw (← ed .0, ← en .0, ← ek .0, row-six n 13) (put-then errorField v w);
   row = et ∙ (rw (← ed .0, ← en .0, ← ek .0, ← ex .0, named-length n p 13, named-length k p (rowPast 6 n 13), add-one count) refl);
-  span = es ∙ (rw (ed .0) refl) }
+  span = es ∙ (rw (ed .0) refl);
+}
 
 module _ (p : List ℕ) (count : ℕ) (t defs b : List ℕ) (s : Sink) (x : ℕ) (ex : (x ≡ nameIn p 8) × (x < 512)) (f : FoundGate) (ef : f ≡ gateIn t x) where
   pub header-known : (h : Header) → f ≡ Known h → (sp d : ℕ) → (sp ≡ le4 p 4) × (sp < 4294967296) → (d ≡ le4 p 0) × (d < 4294967296) → (b′ : List ℕ) (r : Sink)
@@ -186,7 +189,8 @@ module _ (p : List ℕ) (count : ℕ) (t defs b : List ℕ) (s : Sink) (x : ℕ)
         let e : isGate gs (nameIn p 8) ≡ true = known-is gs (nameIn p 8) h (hold .heads (nameIn p 8) ∙ (rw (← ex .0) (sym ef ∙ q))) in
         (rw e hold, rw e ec);
     few = omega arith;
-    long = refl }
+    long = refl;
+  }
 
   pub header-new : f ≡ Unknown → (t′ defs′ b′ : List ℕ) (r : Sink) → GateEntered p count t defs b s t′ defs′ b′ r
       → HeaderDone p count t defs b s t′ defs′ b′ (record { count = count + 1; sink = r })
@@ -195,11 +199,13 @@ module _ (p : List ℕ) (count : ℕ) (t defs b : List ℕ) (s : Sink) (x : ℕ)
     said = λ l. rw (← ex .0, ← ef, q) (w .said);
     held = λ gs l ec hold.
         let u : header gs (nameIn p 8) ≡ Unknown = hold .heads (nameIn p 8) ∙ (rw (← ex .0) (sym ef ∙ q)) in
-        let e : isGate gs (nameIn p 8) ≡ false = unknown-is gs (nameIn p 8) u in
-        (rw e (held-more gs (gateAtPlace p l) u t defs count ec hold (mod-lt (le2 p 8) (lit< tt)) t′ defs′ (w .row) (w .span)),
-         rw e (rw ec (sym (length-append gs (gateAtPlace p l ∷ [])))));
+        let e : isGate gs (nameIn p 8) ≡ false = unknown-is gs (nameIn p 8) u in (
+          rw e (held-more gs (gateAtPlace p l) u t defs count ec hold (mod-lt (le2 p 8) (lit< tt)) t′ defs′ (w .row) (w .span)),
+          rw e (rw ec (sym (length-append gs (gateAtPlace p l ∷ [])))),
+        );
     few = omega arith;
-    long = ap length (w .span) ∙ length-set defs count (le4 p 0) }
+    long = ap length (w .span) ∙ length-set defs count (le4 p 0);
+  }
 
 pub ruleset header-laws = (header-known, header-new)
 
@@ -214,7 +220,8 @@ module _ (img : List ℕ) (at : ℕ) (h : at < length img) (tag : ℕ) (et : tag
     long = refl;
     on = omega arith;
     within = omega arith;
-    few = omega arith }
+    few = omega arith;
+  }
 
   pub decl-inside : i ≡ true → DeclMoves img i at count t defs b s t defs b (record { next = n; inside = j; count = count; sink = s })
   decl-inside e =
@@ -243,11 +250,13 @@ module _ (img : List ℕ) (at : ℕ) (h : at < length img) (tag : ℕ) (et : tag
               said = w .said (rest img n);
               owed = rw (ej, e, here, hold .heads (nameIn p 8)) refl;
               listed = rw (ej, e, here) refl;
-              counted = a .1 };
+              counted = a .1;
+            };
         long = w .long;
         on = omega arith;
         within = omega arith;
-        few = omega (arith, w .few) }
+        few = omega (arith, w .few);
+      }
 
 -- ---- the loop
 
@@ -272,7 +281,8 @@ decls-start img b t defs s full zero-all spans = record {
   owes = owes-all errorField _ _ _;
   listed = refl;
   counted = refl;
-  few = omega arith }
+  few = omega arith;
+}
   where
     none-known : (x : ℕ) → header [] x ≡ Unknown
     none-known x = refl
@@ -289,7 +299,8 @@ decls-moved img b₀ s₀ b t defs w b′ t′ defs′ r o l m =
       owes = owes-less errorField (o .owes) (x .owed) (x .said);
       listed = sym (x .listed) ∙ o .listed;
       counted = x .counted;
-      few = m .few }
+      few = m .few;
+    }
 
 pub decls-done : (img b₀ : List ℕ) (s₀ : Sink) (b t defs : List ℕ) (w : Turn) → DeclsOwed img b₀ s₀ b t defs w → length img ≤ w .next
     → GatesDone img b₀ s₀ b (record { gates = record { rows = t; defs = defs; count = w .count }; sink = w .sink })
@@ -301,4 +312,5 @@ decls-done img b₀ s₀ b t defs w o h =
       said = owes-none errorField (o .owes) (ap (declErrors (o .found)) e);
       holds = subst (λ (l : List Gate). Holds l t defs) f (o .holds);
       count = o .counted ∙ ap length f;
-      spans = o .spans }
+      spans = o .spans;
+    }

@@ -63,13 +63,15 @@ entered-finds rs t c o small f t′ q = record {
   full = ap length q ∙ rowSet-length t (o .name) (kindOf c ∷ o .span ∷ sizeOf o ∷ []) ∙ f .full;
   finds = λ x.
       let here : regIn t′ x ≡ pick (eqb (o .name) x) (Row (register c o)) (regIn t x) =
-            rw (q, reg-set t (f .full) (o .name) small (kindOf c) (o .span) (sizeOf o) x (some c), kind-is c) refl in
+      rw (q, reg-set t (f .full) (o .name) small (kindOf c) (o .span) (sizeOf o) x (some c), kind-is c) refl in
       latest-snoc rs (register c o) x ∙ ap (λ z. pick (eqb (o .name) x) (Row (register c o)) z) (f .finds x) ∙ sym here;
-  params = λ x. ap (λ z. paramIn z x) q ∙ reg-set-param t (f .full) (o .name) small (kindOf c) (o .span) (sizeOf o) x ∙ f .params x }
+  params = λ x. ap (λ z. paramIn z x) q ∙ reg-set-param t (f .full) (o .name) small (kindOf c) (o .span) (sizeOf o) x ∙ f .params x;
+}
   where
     some : (c : Bool) → kindOf c ≡ 0 → ⊥
     some true e = omega arith
     some false e = omega arith
+
     kind-is : (c : Bool) → eqb (kindOf c) 2 ≡ c
     kind-is true = refl
     kind-is false = refl
@@ -83,7 +85,8 @@ module _ (img : List ℕ) (at : ℕ) (h : at < length img) (tag : ℕ) (et : tag
     moves = λ rs f. record { found = rs; told = []; finds = f; said = put-none errorField b s; owed = q rs; listed = ap (λ l. rs ++ l) r; counted = λ e. e };
     on = omega arith;
     within = omega arith;
-    few = omega arith }
+    few = omega arith;
+  }
 
   pub reg-inside : i ≡ true → RegMoves img i at count t b s t b (record { next = n; inside = j; count = count; sink = s })
   reg-inside e =
@@ -113,10 +116,12 @@ module _ (img : List ℕ) (at : ℕ) (h : at < length img) (tag : ℕ) (et : tag
           said = w;
           owed = rw (ej, e, here, ← eo, ← ed .0, f .finds (o .name)) refl;
           listed = rw (ej, e, here, ← eo) (sym (append-assoc rs (register c o ∷ []) (registers (decls (then false tag p) false (rest img n)))));
-          counted = λ x. rw x (sym (length-append rs (register c o ∷ []))) };
+          counted = λ x. rw x (sym (length-append rs (register c o ∷ [])));
+        };
         on = omega arith;
         within = omega arith;
-        few = omega arith }
+        few = omega arith;
+      }
 
 pub none-left : (img : List ℕ) (i : Bool) (at : ℕ) → length img ≤ at → leftRegs img i at ≡ []
 unfolding decls
@@ -143,7 +148,8 @@ regs-start img b t s full zero-all = record {
   owes = owes-all errorField _ _ _;
   listed = refl;
   counted = refl;
-  few = omega arith }
+  few = omega arith;
+}
 
 pub regs-moved : (img b₀ : List ℕ) (s₀ : Sink) (b t : List ℕ) (w : Turn) (b′ t′ : List ℕ) (r : Turn) → RegsOwed img b₀ s₀ b t w → length b′ ≡ length b
     → RegMoves img (w .inside) (w .next) (w .count) t b (w .sink) t′ b′ r → RegsOwed img b₀ s₀ b′ t′ r
@@ -156,7 +162,8 @@ regs-moved img b₀ s₀ b t w b′ t′ r o l m =
       owes = owes-less errorField (o .owes) (x .owed) (x .said);
       listed = sym (x .listed) ∙ o .listed;
       counted = x .counted (o .counted);
-      few = m .few }
+      few = m .few;
+    }
 
 pub regs-done : (img b₀ : List ℕ) (s₀ : Sink) (b t : List ℕ) (w : Turn) → RegsOwed img b₀ s₀ b t w → length img ≤ w .next
     → RegsDone img b₀ s₀ b (record { regs = record { rows = t; count = w .count }; sink = w .sink })
@@ -167,7 +174,8 @@ regs-done img b₀ s₀ b t w o h =
     record {
       said = owes-none errorField (o .owes) (ap (regErrors (o .found)) e);
       finds = subst (λ (l : List Reg). Finds l t) f (o .finds);
-      count = o .counted ∙ ap length f }
+      count = o .counted ∙ ap length f;
+    }
 
 -- every name is below 512
 pub name-small : (p : List ℕ) (at : ℕ) (o : Operand) → o ≡ operandIn p at → o .name < 512

@@ -12,7 +12,6 @@ ghost use Rattle.output.specs.Sinks.{Said};
 ghost use Rattle.tables.specs.Tables.{regIn, rowSet};
 ghost use Rattle.collect.specs.Collected.{namedKind, regErrorsBy, kindOf, RegMoves, RegsDone, GateEntered, HeaderDone, DeclMoves, GatesDone};
 ghost use Rattle.rules.specs.Reading.{isReg};
-
 use items::byte_at;
 use items::four_at;
 use output::Sink;
@@ -93,7 +92,15 @@ pub struct Turn {
 }
 
 // One field: a register is entered after its errors are told; the later one wins.
-fn reg_step(out: &mut [u8], s: Sink, img: &[u8], at: usize, inside: bool, t: &mut [u64], count: usize) -> Turn
+fn reg_step(
+    out: &mut [u8],
+    s: Sink,
+    img: &[u8],
+    at: usize,
+    inside: bool,
+    t: &mut [u64],
+    count: usize,
+) -> Turn
     requires { ⌜ (at < length (now img)) × (count ≤ at) ⌝ }
     ensures { λ r. ⌜ RegMoves (now (img .entry)) inside at count (now (t .entry)) (now (out .entry)) s (now (t .exit)) (now (out .exit)) r ⌝ }
 {
@@ -102,15 +109,30 @@ fn reg_step(out: &mut [u8], s: Sink, img: &[u8], at: usize, inside: bool, t: &mu
     let behind = next(img, at);
     let open = then_inside(inside, tag, p);
     if inside {
-        return Turn { next: behind, inside: open, count: count, sink: s };
+        return Turn {
+            next: behind,
+            inside: open,
+            count: count,
+            sink: s,
+        };
     }
     if is_reg(tag) {
         let o = operand(p, 4);
         let r = tell_register(out, s, o, four_at(p, 0), t);
         set_reg(t, o.name, kind_of(tag), o.span, size_of(o));
-        return Turn { next: behind, inside: open, count: count + 1, sink: r };
+        return Turn {
+            next: behind,
+            inside: open,
+            count: count + 1,
+            sink: r,
+        };
     }
-    Turn { next: behind, inside: open, count: count, sink: s }
+    Turn {
+        next: behind,
+        inside: open,
+        count: count,
+        sink: s,
+    }
 }
 
 pub struct RegsRead {
@@ -123,12 +145,20 @@ pub fn collect_regs(out: &mut [u8], s: Sink, img: &[u8]) -> RegsRead
     ensures { λ r. ⌜ RegsDone (now (img .entry)) (now (out .entry)) s (now (out .exit)) r ⌝ }
 {
     let mut rows = [0u64; 2048];
-    let mut w = Turn { next: 0, inside: false, count: 0, sink: s };
+    let mut w = Turn {
+        next: 0,
+        inside: false,
+        count: 0,
+        sink: s,
+    };
     while w.next < img.len() {
         w = reg_step(out, w.sink, img, w.next, w.inside, &mut rows, w.count);
     }
     let r = w.sink;
-    let t = Regs { rows: rows, count: w.count };
+    let t = Regs {
+        rows: rows,
+        count: w.count,
+    };
     RegsRead { regs: t, sink: r }
 }
 
@@ -156,7 +186,15 @@ fn earlier(p: &[u8], from: usize, k: u64, x: u64) -> Found
 }
 
 // 2 for an argument, 3 for a parameter, where its name stood before.
-fn tell_repeat(out: &mut [u8], s: Sink, arguments: bool, f: Found, span: u64, x: u64, decl: u64) -> Sink
+fn tell_repeat(
+    out: &mut [u8],
+    s: Sink,
+    arguments: bool,
+    f: Found,
+    span: u64,
+    x: u64,
+    decl: u64,
+) -> Sink
     ensures { λ r. ⌜ Said (now (out .entry)) s (repeated (namedKind arguments) decl f (record { span = span; name = x })) (now (out .exit)) r ⌝ }
 {
     match f {
@@ -171,7 +209,15 @@ fn tell_repeat(out: &mut [u8], s: Sink, arguments: bool, f: Found, span: u64, x:
 }
 
 // The repeated names of a row of k.
-fn tell_repeats(out: &mut [u8], s: Sink, arguments: bool, p: &[u8], from: usize, k: u64, decl: u64) -> Sink
+fn tell_repeats(
+    out: &mut [u8],
+    s: Sink,
+    arguments: bool,
+    p: &[u8],
+    from: usize,
+    k: u64,
+    decl: u64,
+) -> Sink
     requires { ⌜ (from ≤ 2000) × (k ≤ 255) ⌝ }
     ensures { λ r. ⌜ Said (now (out .entry)) s (repeats (namedKind arguments) decl [] (rowIn namedIn 6 k (now (p .entry)) from)) (now (out .exit)) r ⌝ }
 {
@@ -195,7 +241,14 @@ pub struct Gates {
 }
 
 // A first entry: its repeated names are told, and it gets the next number.
-fn enter_gate(out: &mut [u8], s: Sink, p: &[u8], t: &mut [u64], defs: &mut [u64], count: usize) -> Sink
+fn enter_gate(
+    out: &mut [u8],
+    s: Sink,
+    p: &[u8],
+    t: &mut [u64],
+    defs: &mut [u64],
+    count: usize,
+) -> Sink
     requires { ⌜ count < 18446744073709551615 ⌝ }
     ensures { λ r. ⌜ GateEntered (now (p .entry)) count (now (t .entry)) (now (defs .entry)) (now (out .entry)) s (now (t .exit)) (now (defs .exit)) (now (out .exit)) r ⌝ }
 {
@@ -210,7 +263,14 @@ fn enter_gate(out: &mut [u8], s: Sink, p: &[u8], t: &mut [u64], defs: &mut [u64]
 }
 
 // One header: 1 where the name was seen before, else a first entry.
-fn header_step(out: &mut [u8], s: Sink, p: &[u8], t: &mut [u64], defs: &mut [u64], count: usize) -> Counted
+fn header_step(
+    out: &mut [u8],
+    s: Sink,
+    p: &[u8],
+    t: &mut [u64],
+    defs: &mut [u64],
+    count: usize,
+) -> Counted
     requires { ⌜ count < 18446744073709551615 ⌝ }
     ensures { λ r. ⌜ HeaderDone (now (p .entry)) count (now (t .entry)) (now (defs .entry)) (now (out .entry)) s (now (t .exit)) (now (defs .exit)) (now (out .exit)) r ⌝ }
 {
@@ -218,11 +278,17 @@ fn header_step(out: &mut [u8], s: Sink, p: &[u8], t: &mut [u64], defs: &mut [u64
     match find_gate(t, x) {
         FoundGate::Known(h) => {
             let r = output::redefined_gate(out, s, four_at(p, 4), x, four_at(p, 0), h.decl);
-            Counted { count: count, sink: r }
+            Counted {
+                count: count,
+                sink: r,
+            }
         }
         FoundGate::Unknown => {
             let r = enter_gate(out, s, p, t, defs, count);
-            Counted { count: count + 1, sink: r }
+            Counted {
+                count: count + 1,
+                sink: r,
+            }
         }
     }
 }
@@ -233,7 +299,16 @@ pub struct Counted {
 }
 
 // One field: a header, outside a body.
-fn decl_step(out: &mut [u8], s: Sink, img: &[u8], at: usize, inside: bool, t: &mut [u64], defs: &mut [u64], count: usize) -> Turn
+fn decl_step(
+    out: &mut [u8],
+    s: Sink,
+    img: &[u8],
+    at: usize,
+    inside: bool,
+    t: &mut [u64],
+    defs: &mut [u64],
+    count: usize,
+) -> Turn
     requires { ⌜ (at < length (now img)) × (count ≤ at) ⌝ }
     ensures { λ r. ⌜ DeclMoves (now (img .entry)) inside at count (now (t .entry)) (now (defs .entry)) (now (out .entry)) s (now (t .exit)) (now (defs .exit)) (now (out .exit)) r ⌝ }
 {
@@ -242,14 +317,29 @@ fn decl_step(out: &mut [u8], s: Sink, img: &[u8], at: usize, inside: bool, t: &m
     let behind = next(img, at);
     let open = then_inside(inside, tag, p);
     if inside {
-        return Turn { next: behind, inside: open, count: count, sink: s };
+        return Turn {
+            next: behind,
+            inside: open,
+            count: count,
+            sink: s,
+        };
     }
     if tag == 5 {
         let c = header_step(out, s, p, t, defs, count);
         let r = c.sink;
-        return Turn { next: behind, inside: open, count: c.count, sink: r };
+        return Turn {
+            next: behind,
+            inside: open,
+            count: c.count,
+            sink: r,
+        };
     }
-    Turn { next: behind, inside: open, count: count, sink: s }
+    Turn {
+        next: behind,
+        inside: open,
+        count: count,
+        sink: s,
+    }
 }
 
 pub struct GatesRead {
@@ -263,11 +353,29 @@ pub fn collect_decls(out: &mut [u8], s: Sink, img: &[u8]) -> GatesRead
 {
     let mut rows = [0u64; 2048];
     let mut defs = [0u64; 128];
-    let mut w = Turn { next: 0, inside: false, count: 0, sink: s };
+    let mut w = Turn {
+        next: 0,
+        inside: false,
+        count: 0,
+        sink: s,
+    };
     while w.next < img.len() {
-        w = decl_step(out, w.sink, img, w.next, w.inside, &mut rows, &mut defs, w.count);
+        w = decl_step(
+            out,
+            w.sink,
+            img,
+            w.next,
+            w.inside,
+            &mut rows,
+            &mut defs,
+            w.count,
+        );
     }
     let r = w.sink;
-    let g = Gates { rows: rows, defs: defs, count: w.count };
+    let g = Gates {
+        rows: rows,
+        defs: defs,
+        count: w.count,
+    };
     GatesRead { gates: g, sink: r }
 }

@@ -1,21 +1,18 @@
 -- The binary digits of words: of a union, of a power, of words with a digit in common; then of sets.
-use mathlib.Core.Path.{_≡_, refl, sym, ap, ap₂, _∙_, subst}
-use mathlib.Core.Logic.{_⊎_, inl, inr, ⊎-elim}
-use mathlib.Core.Bool.{Bool, true, false, not, _&&_, _||_}
-use Prim.Native.Nat.{ℕ, zero, suc, _+_, _-_, _*_, _/_, _%_, _^_, _≤_, _<_, max, min, zero-le}
+use mathlib.Core.Path.{_≡_, refl, sym, ap, _∙_, subst}
+use mathlib.Core.Bool.{Bool, false, not, _||_}
+use Prim.Native.Nat.{ℕ, zero, suc, _/_, _%_, _^_, _<_, max}
 use native.Mathlib.Nat.{pow-suc, div-one}
-use native.Mathlib.Decide.{ℕ-discrete, decLt}
-use native.Mathlib.Numerals.{add-one, one-add}
+use native.Mathlib.Decide.{ℕ-discrete}
+use native.Mathlib.Numerals.{one-add}
 use native.Mathlib.Omega.{arith}
-use borrow.Author.Tests.{lt-ltb, le-ltb, eq-eqb, ne-eqb}
+use borrow.Author.Tests.{eq-eqb, ne-eqb}
 use lib.Bits.{bitAnd, bitOr, and-step, or-step}
 use lib.Pow.{shr-shr}
-use lib.Dec.{T, eqb, ltb, eqb→eq, eqb-refl, eqb·zero-suc, eqb·suc-zero, eqb·suc-suc}
-use Rattle.rules.specs.Basics.{pick, any}
-use Rattle.theorems.specs.Search.{test, and-T, T-and, or-T, T-left, T-right}
-use Rattle.graph.specs.declared.sets.Set.{Set}
-use Rattle.graph.specs.Sets.{digit, holds}
-use Rattle.graph.proofs.Tests.{same-test, T-true, T-false, is-true, is-false, any-yes, any-no}
+use lib.Dec.{T, eqb, eqb→eq, eqb·zero-suc, eqb·suc-zero, eqb·suc-suc}
+use Rattle.theorems.specs.Search.{test, T-left}
+use Rattle.graph.specs.Sets.{digit}
+use Rattle.graph.proofs.Tests.{T-true}
 
 -- ---- one word
 

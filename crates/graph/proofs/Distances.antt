@@ -1,15 +1,14 @@
 -- The gates near g, one call further at each round.
-use mathlib.Core.Path.{_≡_, refl, sym, ap, ap₂, _∙_, subst}
+use mathlib.Core.Path.{_≡_, refl, sym, ap, _∙_, subst}
 use mathlib.Core.Logic.{_≢_}
-use mathlib.Core.Bool.{Bool, true, false, not, _&&_, _||_, or-false}
+use mathlib.Core.Bool.{Bool, true, false, not, _&&_, _||_, or-false, and-false}
 use mathlib.Core.List.{List}
-use Prim.Native.Nat.{ℕ, zero, suc, _+_, _-_, _≤_, _<_}
-use native.Mathlib.Nat.{not-suc-le-zero}
+use Prim.Native.Nat.{ℕ, suc, _+_, _-_, _≤_, _<_}
 use native.Mathlib.Decide.{decLt, ℕ-discrete}
 use native.Mathlib.Numerals.{add-one}
 use native.Mathlib.Omega.{arith}
 use borrow.Author.Tests.{lt-ltb, le-ltb, eq-eqb, ne-eqb, ltb-true}
-use lib.Dec.{T, eqb, ltb, ltb→lt, lt→ltb, eqb→eq, eqb-refl}
+use lib.Dec.{T, eqb, ltb, ltb→lt, lt→ltb}
 use lib.ListN.{length, getD, set, length-set, replicate, length-replicate, getD-replicate}
 use lib.Seq.{getD-set-same, getD-set-other}
 use Rattle.rules.specs.Basics.{pick, first, any}
@@ -20,17 +19,11 @@ use Rattle.theorems.specs.Groups.{walks-walk, walk-walks}
 use Rattle.graph.specs.declared.sets.Set.{Set}
 use Rattle.graph.specs.Sets.{holds}
 use Rattle.graph.specs.Rows.{rowOf, calls, linked, touches, Spread, dist, Distances, Lapped}
-use Rattle.graph.proofs.Tests.{T-true, T-false, is-true, is-false}
+use Rattle.graph.proofs.Tests.{T-true, T-false, is-true, is-false, ltb-more}
 use Rattle.graph.proofs.Holding.{holds-empty}
 use Rattle.graph.proofs.Groups.{linked-within, linked-calls, calls-linked}
 
 -- ---- one round, gate by gate
-
-ltb-more : (v i : ℕ) → v ≢ i → ltb v (i + 1) ≡ ltb v i
-ltb-more v i n = elim (decLt v i) [
-  | yes h ↦ lt-ltb v (i + 1) (omega arith) ∙ sym (lt-ltb v i h)
-  | no h ↦ le-ltb v (i + 1) (omega arith) ∙ sym (le-ltb v i (omega arith))
-]
 
 module _ (k : ℕ) (t : List ℕ) (near : Set) (d : List ℕ) where
   pub spread-none : length d ≡ 128 → Spread k t near 0 d d near
@@ -122,12 +115,8 @@ near-start n E within g s d small h e f = record { size = length-set d g 1 ∙ s
     held : (u : ℕ) → u < 128 → eqb g u ≡ (ltb u n && ltb (dist n E g u) 1)
     held u b = elim (ℕ-discrete u g) [
       | yes q ↦ subst (λ (x : ℕ). eqb g x ≡ (ltb x n && ltb (dist n E g x) 1)) (sym q) (rw (eq-eqb g g refl, lt-ltb g n h, here) refl)
-      | no q ↦ rw (ne-eqb g u (λ z. q (sym z)), away u q) (sym (none (ltb u n)))
+      | no q ↦ rw (ne-eqb g u (λ z. q (sym z)), away u q) (sym (and-false (ltb u n)))
     ]
-      where
-        none : (a : Bool) → (a && false) ≡ false
-        none true = refl
-        none false = refl
 
     row : Distances n E g 1 (set d g 1)
     row u b = elim (ℕ-discrete u g) [

@@ -1,18 +1,19 @@
 -- Who reaches whom, and the lowest gates of the groups.
 use mathlib.Core.Path.{_≡_, refl, sym, ap, ap₂, _∙_, subst}
-use mathlib.Core.Logic.{_≢_, _⊎_, inl, inr, ⊎-elim}
-use mathlib.Core.Bool.{Bool, true, false, not, _&&_, _||_, or-false}
+use mathlib.Core.Logic.{_⊎_, inl, inr, ⊎-elim}
+use mathlib.Core.Bool.{Bool, true, false, not, _&&_, _||_, or-false, and-false}
 use mathlib.Core.List.{List, [], _∷_, _++_, append-assoc, append-nil}
 use Prim.Native.Nat.{ℕ, zero, suc, _+_, _-_, _≤_, _<_}
 use native.Mathlib.Nat.{not-suc-le-zero}
 use native.Mathlib.Decide.{decLt, ℕ-discrete}
 use native.Mathlib.Numerals.{add-one}
 use native.Mathlib.Omega.{arith}
-use borrow.Author.Tests.{lt-ltb, le-ltb}
-use lib.Dec.{T, eqb, ltb, ltb→lt, lt→ltb}
-use lib.ListN.{length, getD, set, take, length-set}
+use borrow.Author.Tests.{lt-ltb}
+use borrow.Author.Count.{below-more}
+use lib.Dec.{T, ltb, ltb→lt}
+use lib.ListN.{length, set, take, length-set}
 use lib.Seq.{take-suc-set}
-use Rattle.rules.specs.Basics.{pick, any}
+use Rattle.rules.specs.Basics.{pick}
 use Rattle.rules.specs.Graph.{reaches, leads, those, leaders}
 use Rattle.theorems.specs.Words.{Walk, Reach, Within}
 use Rattle.theorems.specs.Search.{and-T, T-and, or-T, T-left, T-right}
@@ -21,7 +22,7 @@ use Rattle.theorems.specs.Groups.{reaches-reach, reach-reaches}
 use Rattle.graph.specs.declared.sets.Set.{Set}
 use Rattle.graph.specs.Sets.{holds}
 use Rattle.graph.specs.Rows.{rowOf, calls, linked, RowPut, Passed, Reached, lowestBy}
-use Rattle.graph.proofs.Tests.{same-test, T-true, T-false, is-true, is-false, any-yes, any-no, any-same}
+use Rattle.graph.proofs.Tests.{same-test, T-true, T-false, any-yes, any-no, any-same}
 
 -- ---- the graph of the first n gates
 
@@ -174,11 +175,7 @@ module _ (t : List ℕ) (g : ℕ) (s : Set) (e : s ≡ rowOf t g) where
     unfolding lowestBy calls
     leads-lower h l b x y r f c z w =
         let hit : T (lower h) = T-and (calls t g h) (calls t h g) (T-true (calls t g h) (sym (same-row h) ∙ sym x ∙ y)) (T-true (calls t h g) (ap (λ (v : Set). holds v g) (sym f) ∙ sym z ∙ w)) in
-        rw (any-yes g lower h l hit) (sym (none (calls t g g)))
-      where
-        none : (x : Bool) → (x && false) ≡ false
-        none true = refl
-        none false = refl
+        rw (any-yes g lower h l hit) (sym (and-false (calls t g g)))
 
     pub leads-on : a ≡ true → (h : ℕ) → g ≤ h → ((j : ℕ) → j < h → T (lower j) → ⊥) → true ≡ lowestBy t g
     unfolding lowestBy
@@ -186,16 +183,13 @@ module _ (t : List ℕ) (g : ℕ) (s : Set) (e : s ≡ rowOf t g) where
 
   -- one gate more that is not in the group: it does not reach g, or g does not reach it
   module _ (h : ℕ) (none : (j : ℕ) → j < h → T (lower j) → ⊥) where
-    apart : (T (lower h) → ⊥) → (j : ℕ) → j < h + 1 → T (lower j) → ⊥
-    apart f j l o = elim (decLt j h) [ yes a ↦ none j a o | no a ↦ let q : j ≡ h = omega arith in f (subst (λ (x : ℕ). T (lower x)) q o) ]
-
     module _ (b : Bool) (p : b ≡ holds s h) where
       pub apart-from : b ≡ false → (j : ℕ) → j < h + 1 → T (lower j) → ⊥
-      apart-from q = apart (λ o. T-false (calls t g h) (sym (same-row h) ∙ sym p ∙ q) (and-T (calls t g h) (calls t h g) o .0))
+      apart-from q = below-more (λ j. T (lower j) → ⊥) h none (λ o. T-false (calls t g h) (sym (same-row h) ∙ sym p ∙ q) (and-T (calls t g h) (calls t h g) o .0))
 
       pub apart-to : (r : Set) → r ≡ rowOf t h → (c : Bool) → c ≡ holds r g → c ≡ false → (j : ℕ) → j < h + 1 → T (lower j) → ⊥
       unfolding calls
-      apart-to r f c z w = apart (λ o. T-false (calls t h g) (ap (λ (x : Set). holds x g) (sym f) ∙ sym z ∙ w) (and-T (calls t g h) (calls t h g) o .1))
+      apart-to r f c z w = below-more (λ j. T (lower j) → ⊥) h none (λ o. T-false (calls t h g) (ap (λ (x : Set). holds x g) (sym f) ∙ sym z ∙ w) (and-T (calls t g h) (calls t h g) o .1))
 
 pub leads-same : (n : ℕ) (E : ℕ → ℕ → Bool) (t : List ℕ) → Reached n E t → (g : ℕ) → g < n → lowestBy t g ≡ leads n E g
 unfolding lowestBy leads

@@ -1,19 +1,18 @@
 -- What each function of sets leaves, gate by gate.
-use mathlib.Core.Path.{_≡_, refl, sym, ap, ap₂, _∙_, subst}
-use mathlib.Core.Logic.{_⊎_, inl, inr, ⊎-elim}
-use mathlib.Core.Bool.{Bool, true, false, not, _&&_, _||_, or-false}
-use Prim.Native.Nat.{ℕ, zero, suc, _+_, _-_, _*_, _/_, _%_, _^_, _≤_, _<_}
+use mathlib.Core.Path.{_≡_, refl, sym, ap, ap₂, _∙_}
+use mathlib.Core.Bool.{Bool, true, false, not, _&&_, _||_, or-comm}
+use Prim.Native.Nat.{ℕ, _+_, _-_, _^_, _≤_, _<_}
 use native.Mathlib.Decide.{ℕ-discrete, decLt}
 use native.Mathlib.Omega.{arith}
 use borrow.Author.Tests.{lt-ltb, le-ltb, eq-eqb, ne-eqb}
 use lib.Bits.{bitAnd, bitOr}
-use lib.Dec.{T, eqb, ltb, eqb→eq}
-use Rattle.rules.specs.Basics.{pick, any}
-use Rattle.theorems.specs.Search.{test, and-T, T-and, any-some}
+use lib.Dec.{T, eqb}
+use Rattle.rules.specs.Basics.{any}
+use Rattle.theorems.specs.Search.{and-T, T-and}
 use lib.Dec.{not-T, T-not}
 use Rattle.graph.specs.declared.sets.Set.{Set}
 use Rattle.graph.specs.Sets.{digit, holds}
-use Rattle.graph.proofs.Tests.{same-test, T-true, T-false, is-true, is-false, any-yes, any-no}
+use Rattle.graph.proofs.Tests.{any-yes, any-no}
 use Rattle.graph.proofs.Digits.{zero-digit, one-digit, or-digit, and-none, and-some, or-in, or-out}
 
 -- ---- the words of a set
@@ -55,18 +54,12 @@ holds-union a b r p q =
     (λ j l h. rw (holds-high r j l h, holds-high a j l h, holds-high b j l h, q) (or-digit (a .high) (b .high) (j - 64)))
     (λ j h. rw (holds-none r j h, holds-none a j h, holds-none b j h) refl)
 
-or-flip : (a b : Bool) → (a || b) ≡ (b || a)
-or-flip true true = refl
-or-flip true false = refl
-or-flip false true = refl
-or-flip false false = refl
-
 module _ (s : Set) (j p : ℕ) where
   pub with-low : j < 64 → p ≡ 2 ^ j → (k : ℕ) → k < 128 → holds (record { low = bitOr (s .low) p; high = s .high }) k ≡ (eqb j k || holds s k)
   with-low h e k l = elim (decLt k 64) [
     | yes m ↦
         holds-low (record { low = bitOr (s .low) p; high = s .high }) k m ∙ or-digit (s .low) p k
-        ∙ or-flip (digit (s .low) k) (digit p k) ∙ ap₂ (λ (x y : Bool). x || y) (ap (λ (x : ℕ). digit x k) e ∙ one-digit j k) (sym (holds-low s k m))
+        ∙ or-comm (digit (s .low) k) (digit p k) ∙ ap₂ (λ (x y : Bool). x || y) (ap (λ (x : ℕ). digit x k) e ∙ one-digit j k) (sym (holds-low s k m))
     | no m ↦
         let n : ¬ (j ≡ k) = omega arith in
         holds-high (record { low = bitOr (s .low) p; high = s .high }) k (omega arith) l ∙ sym (holds-high s k (omega arith) l) ∙ sym (ap (λ (x : Bool). x || holds s k) (ne-eqb j k n))
@@ -79,7 +72,7 @@ module _ (s : Set) (j p : ℕ) where
         holds-low (record { low = s .low; high = bitOr (s .high) p }) k m ∙ sym (holds-low s k m) ∙ sym (ap (λ (x : Bool). x || holds s k) (ne-eqb j k n))
     | no m ↦
         holds-high (record { low = s .low; high = bitOr (s .high) p }) k (omega arith) l ∙ or-digit (s .high) p (k - 64)
-        ∙ or-flip (digit (s .high) (k - 64)) (digit p (k - 64))
+        ∙ or-comm (digit (s .high) (k - 64)) (digit p (k - 64))
         ∙ ap₂ (λ (x y : Bool). x || y) (ap (λ (x : ℕ). digit x (k - 64)) e ∙ one-digit (j - 64) (k - 64) ∙ shifted k (omega arith)) (sym (holds-high s k (omega arith) l))
   ]
     where

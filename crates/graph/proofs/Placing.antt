@@ -1,16 +1,17 @@
 -- The order, place by place.
 use mathlib.Core.Path.{_≡_, refl, sym, ap, ap₂, _∙_, subst}
-use mathlib.Core.Logic.{_⊎_, inl, inr, ⊎-elim}
-use mathlib.Core.Bool.{Bool, true, false, not, _&&_, _||_}
+use mathlib.Core.Logic.{⊎-elim}
+use mathlib.Core.Bool.{Bool, true, false, not, _&&_, _||_, and-true, or-false}
 use mathlib.Core.List.{List, [], _∷_, _++_}
-use Prim.Native.Nat.{ℕ, zero, suc, _+_, _-_, _≤_, _<_}
+use Prim.Native.Nat.{ℕ, suc, _+_, _-_, _≤_, _<_}
 use native.Mathlib.Nat.{not-suc-le-zero}
 use native.Mathlib.Decide.{decLt, ℕ-discrete}
 use native.Mathlib.Numerals.{add-one}
 use native.Mathlib.Omega.{arith}
 use borrow.Author.Tests.{lt-ltb, le-ltb, eq-eqb, ne-eqb}
-use lib.Dec.{T, eqb, ltb, ltb→lt, lt→ltb, eqb→eq, not-T, T-not}
-use lib.ListN.{length, getD, set, take, length-set, length-append, List·getD-append}
+use borrow.Author.Count.{below-more}
+use lib.Dec.{T, eqb, ltb, eqb→eq, T-not}
+use lib.ListN.{length, set, take, length-set, length-append, List·getD-append}
 use lib.Seq.{take-suc-set, getD-at}
 use Rattle.rules.specs.Basics.{pick, first, any}
 use Rattle.rules.specs.Order.{has, ready, orderFrom, order}
@@ -19,9 +20,9 @@ use Rattle.theorems.specs.Orders.{pos, at-pos, at-has}
 use Rattle.graph.specs.declared.sets.Set.{Set}
 use Rattle.graph.specs.Sets.{holds}
 use Rattle.graph.specs.Rows.{rowOf, calls, linked, Marks, readyBy}
-use Rattle.graph.proofs.Tests.{same-test, T-true, T-false, is-true, is-false, search-hit, search-end, first-same}
+use Rattle.graph.proofs.Tests.{same-test, T-true, T-false, is-false, ltb-more, search-hit, first-same}
 use Rattle.graph.proofs.Holding.{holds-empty}
-use Rattle.graph.proofs.Groups.{linked-within, linked-calls, calls-linked}
+use Rattle.graph.proofs.Groups.{linked-calls, calls-linked}
 
 -- ---- the gates from n on
 
@@ -29,31 +30,20 @@ use Rattle.graph.proofs.Groups.{linked-within, linked-calls, calls-link
 abbrev pub Beyond : ℕ → ℕ → Set → Type 0
 Beyond n u s = (v : ℕ) → v < 128 → holds s v ≡ (not (ltb v n) && ltb v u)
 
-and-none : (a : Bool) → (a && false) ≡ false
-and-none true = refl
-and-none false = refl
-
 pub beyond-none : (n : ℕ) → Beyond n n (record { low = 0; high = 0 })
 beyond-none n v h = holds-empty v ∙ (elim (decLt v n) [ yes a ↦ rw (lt-ltb v n a) refl | no a ↦ rw (le-ltb v n (omega arith)) refl ])
 
 pub beyond-more : (n u : ℕ) (s r : Set) → n ≤ u → Beyond n u s → ((v : ℕ) → v < 128 → holds r v ≡ (eqb u v || holds s v)) → Beyond n (u + 1) r
 beyond-more n u s r l B f v h = f v h ∙ ap (λ (x : Bool). eqb u v || x) (B v h) ∙ (elim (ℕ-discrete v u) [
   | yes e ↦ rw (eq-eqb u v (sym e), le-ltb v n (omega arith), lt-ltb v (u + 1) (omega arith)) refl
-  | no e ↦ rw (ne-eqb u v (λ x. e (sym x))) (ap (λ (x : Bool). not (ltb v n) && x) (same e))
+  | no e ↦ rw (ne-eqb u v (λ x. e (sym x))) (ap (λ (x : Bool). not (ltb v n) && x) (sym (ltb-more v u e)))
 ])
-  where
-    same : (v ≡ u → ⊥) → ltb v u ≡ ltb v (u + 1)
-    same e = elim (decLt v u) [ yes a ↦ lt-ltb v u a ∙ sym (lt-ltb v (u + 1) (omega arith)) | no a ↦ le-ltb v u (omega arith) ∙ sym (le-ltb v (u + 1) (omega arith)) ]
 
 has-none : (v : ℕ) → has [] v ≡ false
 has-none v = is-false (has [] v) (λ t. absurd (not-suc-le-zero (at-pos [] v t .0)))
 
 pub beyond-all : (n u : ℕ) (s : Set) → 128 ≤ u → Beyond n u s → Marks n [] s
-beyond-all n u s h B = record { placed = λ v b. B v b ∙ (rw (lt-ltb v u (omega arith), has-none v) (same (not (ltb v n)))) }
-  where
-    same : (a : Bool) → (a && true) ≡ (a || false)
-    same true = refl
-    same false = refl
+beyond-all n u s h B = record { placed = λ v b. B v b ∙ (rw (lt-ltb v u (omega arith), has-none v) (and-true (not (ltb v n)) ∙ sym (or-false (not (ltb v n))))) }
 
 -- ---- one gate more
 
@@ -115,12 +105,9 @@ module _ (n : ℕ) (t l : List ℕ) (s : Set) (small : n ≤ 128) (M : Marks n l
 
 -- the search for the lowest
 module _ (n : ℕ) (t : List ℕ) (s : Set) (g : ℕ) (h : g < n) (none : (j : ℕ) → j < g → T (readyBy t s j) → ⊥) (b : Bool) (p : b ≡ holds s g) where
-  not-ready : (T (readyBy t s g) → ⊥) → (j : ℕ) → j < g + 1 → T (readyBy t s j) → ⊥
-  not-ready f j l o = elim (decLt j g) [ yes a ↦ none j a o | no a ↦ let q : j ≡ g = omega arith in f (subst (λ (x : ℕ). T (readyBy t s x)) q o) ]
-
   pub ready-placed : b ≡ true → (j : ℕ) → j < g + 1 → T (readyBy t s j) → ⊥
   unfolding readyBy
-  ready-placed e = not-ready (rw (← p, e) (λ o. o))
+  ready-placed e = below-more (λ j. T (readyBy t s j) → ⊥) g none (rw (← p, e) (λ o. o))
 
   module _ (off : b ≡ false) (r : Set) (f : r ≡ rowOf t g) (c : Bool) (q : c ≡ not (any 128 (λ w. holds r w && not (holds s w)))) where
     ready-is : readyBy t s g ≡ c
@@ -128,7 +115,7 @@ module _ (n : ℕ) (t : List ℕ) (s : Set) (g : ℕ) (h : g < n) (none : (j : �
     ready-is = (rw (← p, off) refl) ∙ sym (q ∙ ap (λ (x : Set). not (any 128 (λ w. holds x w && not (holds s w)))) f)
 
     pub ready-waits : c ≡ false → (j : ℕ) → j < g + 1 → T (readyBy t s j) → ⊥
-    ready-waits e = not-ready (T-false (readyBy t s g) (ready-is ∙ e))
+    ready-waits e = below-more (λ j. T (readyBy t s j) → ⊥) g none (T-false (readyBy t s g) (ready-is ∙ e))
 
     pub ready-found : c ≡ true → g ≡ first n (readyBy t s)
     ready-found e = search-hit n (readyBy t s) g h none (T-true (readyBy t s g) (ready-is ∙ e))

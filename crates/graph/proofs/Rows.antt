@@ -1,7 +1,7 @@
 -- Rows read and written.
-use mathlib.Core.Path.{_≡_, refl, sym, ap, ap₂, _∙_, subst}
+use mathlib.Core.Path.{_≡_, refl, sym, ap, _∙_}
 use mathlib.Core.Logic.{_≢_}
-use mathlib.Core.Bool.{Bool, true, false, not, _&&_, _||_, or-false}
+use mathlib.Core.Bool.{Bool, false, _&&_, _||_, or-false, or-comm}
 use mathlib.Core.List.{List}
 use Prim.Native.Nat.{ℕ, _+_, _*_, _≤_, _<_}
 use native.Mathlib.Decide.{ℕ-discrete, decLt}
@@ -9,7 +9,7 @@ use native.Mathlib.Omega.{arith}
 use borrow.Author.Tests.{lt-ltb, le-ltb, eq-eqb, ne-eqb}
 use lib.ListN.{length, getD, set, length-set, replicate, length-replicate, getD-replicate, List·getD-eq-default}
 use lib.Seq.{getD-set-same, getD-set-other}
-use lib.Dec.{T, eqb, ltb}
+use lib.Dec.{eqb, ltb}
 use Rattle.graph.specs.declared.sets.Set.{Set}
 use Rattle.graph.specs.Sets.{holds}
 use Rattle.graph.specs.Rows.{rowOf, calls, NoCalls, RowPut, OneMore}
@@ -70,19 +70,13 @@ module _ (t : List ℕ) (u w : ℕ) where
     now = λ a b x y. elim (ℕ-discrete a u) [
       | yes q ↦
           let row : rowOf t′ a ≡ r = ap (rowOf t′) q ∙ P .same in
-          ap (λ (z : Set). holds z b) row ∙ f b y ∙ ap (λ (z : Set). eqb w b || holds z b) (e ∙ ap (rowOf t) (sym q)) ∙ flip (eqb w b) (holds (rowOf t a) b)
+          ap (λ (z : Set). holds z b) row ∙ f b y ∙ ap (λ (z : Set). eqb w b || holds z b) (e ∙ ap (rowOf t) (sym q)) ∙ or-comm (eqb w b) (holds (rowOf t a) b)
           ∙ ap (λ (z : Bool). holds (rowOf t a) b || (z && eqb w b)) (sym (eq-eqb u a (sym q)))
       | no q ↦
           ap (λ (z : Set). holds z b) (P .other a q) ∙ sym (or-false (holds (rowOf t a) b))
           ∙ ap (λ (z : Bool). holds (rowOf t a) b || (z && eqb w b)) (sym (ne-eqb u a (λ z. q (sym z))))
     ];
   }
-    where
-      flip : (a b : Bool) → (a || b) ≡ (b || a)
-      flip true true = refl
-      flip true false = refl
-      flip false true = refl
-      flip false false = refl
 
   pub link-out : 128 ≤ u → length t ≡ 256 → OneMore u w t t
   link-out h e = record {

@@ -1,14 +1,14 @@
 -- Tests that say the same, and searches below a bound.
-use mathlib.Core.Path.{_≡_, refl, sym, ap, ap₂, _∙_, subst}
-use mathlib.Core.Bool.{Bool, true, false, not, _&&_, _||_}
-use mathlib.Core.List.{List, [], _∷_}
-use Prim.Native.Nat.{ℕ, zero, suc, _+_, _-_, _≤_, _<_}
+use mathlib.Core.Path.{_≡_, refl, sym, ap, _∙_, subst}
+use mathlib.Core.Bool.{Bool, true, false}
+use mathlib.Core.Logic.{_≢_}
+use Prim.Native.Nat.{ℕ, _+_, _≤_, _<_}
 use native.Mathlib.Decide.{decLt}
-use native.Mathlib.Numerals.{add-one}
 use native.Mathlib.Omega.{arith}
+use borrow.Author.Tests.{lt-ltb, le-ltb}
 use lib.Dec.{T, ltb}
-use Rattle.rules.specs.Basics.{pick, firstFrom, first, any}
-use Rattle.theorems.specs.Search.{first-le, first-true, first-least, first-hit, first-only, any-some, any-of}
+use Rattle.rules.specs.Basics.{first, any}
+use Rattle.theorems.specs.Search.{first-le, first-true, first-least, first-only, any-some, any-of}
 
 -- two tests that imply each other are one
 pub same-test : (a b : Bool) → (T a → T b) → (T b → T a) → a ≡ b
@@ -30,6 +30,12 @@ is-true false t = absurd t
 pub is-false : (a : Bool) → (T a → ⊥) → a ≡ false
 is-false true f = absurd (f tt)
 is-false false f = refl
+
+pub ltb-more : (v i : ℕ) → v ≢ i → ltb v (i + 1) ≡ ltb v i
+ltb-more v i n = elim (decLt v i) [
+  | yes h ↦ lt-ltb v (i + 1) (omega arith) ∙ sym (lt-ltb v i h)
+  | no h ↦ le-ltb v (i + 1) (omega arith) ∙ sym (le-ltb v i (omega arith))
+]
 
 pub any-yes : (n : ℕ) (p : ℕ → Bool) (i : ℕ) → i < n → T (p i) → any n p ≡ true
 any-yes n p i h t = is-true (any n p) (any-of n p i h t)

@@ -2,22 +2,23 @@
 use mathlib.Core.Path.{_≡_, refl, sym, ap, _∙_, subst}
 use mathlib.Core.Bool.{Bool, true, false, _&&_}
 use mathlib.Core.List.{List, [], _∷_, _++_, append-assoc, append-nil}
-use Prim.Native.Nat.{ℕ, zero, suc, _+_, _-_, _≤_, _<_}
+use Prim.Native.Nat.{ℕ, suc, _+_, _-_, _≤_, _<_}
 use native.Mathlib.Decide.{decLt}
 use native.Mathlib.Numerals.{add-one}
 use native.Mathlib.Omega.{arith}
-use borrow.Author.Tests.{lt-ltb, le-ltb, eq-eqb, eqb-true}
+use borrow.Author.Tests.{lt-ltb, le-ltb, eq-eqb}
+use borrow.Author.Count.{below-more}
 use lib.Dec.{T, eqb, ltb, eqb→eq}
-use lib.ListN.{length, getD, set, take, length-set}
+use lib.ListN.{length, getD, set, take}
 use lib.Seq.{take-suc-set}
-use Rattle.rules.specs.Basics.{pick, first}
+use Rattle.rules.specs.Basics.{first}
 use Rattle.rules.specs.Graph.{walks, reaches, way, cycle}
 use Rattle.theorems.specs.Words.{Walk, Within}
 use Rattle.theorems.specs.Search.{and-T, T-and, first-true, first-least, first-hit}
 use Rattle.theorems.specs.Groups.{walks-walk, walk-walks}
 use Rattle.graph.specs.Rows.{calls, linked, dist, Lapped, nextBy}
 use Rattle.graph.proofs.Tests.{same-test, T-true, T-false, search-hit, search-end, first-same}
-use Rattle.graph.proofs.Groups.{linked-in, linked-within}
+use Rattle.graph.proofs.Groups.{linked-in}
 use Rattle.graph.proofs.Distances.{dist-walk, dist-le}
 
 -- ---- the lowest next gate
@@ -27,19 +28,16 @@ module _ (n : ℕ) (t d : List ℕ) (u k : ℕ) where
   next w = linked n t u w && eqb (getD d w 0) k
 
   module _ (w : ℕ) (h : w < n) (none : (j : ℕ) → j < w → T (next j) → ⊥) where
-    next-not : (T (next w) → ⊥) → (j : ℕ) → j < w + 1 → T (next j) → ⊥
-    next-not f j l o = elim (decLt j w) [ yes a ↦ none j a o | no a ↦ let q : j ≡ w = omega arith in f (subst (λ (x : ℕ). T (next x)) q o) ]
-
     pub next-far : (getD d w 0 ≡ k → ⊥) → (j : ℕ) → j < w + 1 → T (next j) → ⊥
     unfolding next
-    next-far f = next-not (λ o. f (eqb→eq (getD d w 0) k (and-T (linked n t u w) (eqb (getD d w 0) k) o .1)))
+    next-far f = below-more (λ j. T (next j) → ⊥) w none (λ o. f (eqb→eq (getD d w 0) k (and-T (linked n t u w) (eqb (getD d w 0) k) o .1)))
 
     module _ (b : Bool) (e : b ≡ (ltb u 128 && calls t u w)) (small : n ≤ 128) where
       pub next-apart : b ≡ false → u < n → (j : ℕ) → j < w + 1 → T (next j) → ⊥
       unfolding next
       next-apart off b =
           let z : u < 128 = omega arith in
-          next-not (λ o. T-false (linked n t u w) (linked-in n t u w b h ∙ sym (rw (lt-ltb u 128 z) at e) ∙ off) (and-T (linked n t u w) (eqb (getD d w 0) k) o .0))
+          below-more (λ j. T (next j) → ⊥) w none (λ o. T-false (linked n t u w) (linked-in n t u w b h ∙ sym (rw (lt-ltb u 128 z) at e) ∙ off) (and-T (linked n t u w) (eqb (getD d w 0) k) o .0))
 
       pub next-found : b ≡ true → getD d w 0 ≡ k → u < n → w ≡ nextBy n (linked n t) d u k
       unfolding nextBy next

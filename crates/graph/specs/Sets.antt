@@ -1,8 +1,6 @@
 -- Sets of gates below 128 as two words of 64 binary digits, and a graph as 128 of them in a row.
-use Prim.Native.Nat.{ℕ, zero, suc, _+_, _-_, _*_, _/_, _%_}
+use Prim.Native.Nat.{ℕ, zero, suc, _-_, _/_, _%_}
 use mathlib.Core.Bool.{Bool, false}
-use mathlib.Core.List.{List}
-use lib.ListN.{getD, take}
 use lib.Dec.{eqb, ltb}
 use Rattle.rules.specs.Basics.{pick}
 use Rattle.graph.specs.declared.sets.Set.{Set}

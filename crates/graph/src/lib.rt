@@ -3,7 +3,7 @@ ghost use mathlib.Core.Path.{_≡_};
 ghost use mathlib.Core.Bool.{_&&_};
 ghost use mathlib.Core.List.{[]};
 ghost use Prim.Native.Nat.{_<_, _≤_};
-ghost use lib.ListN.{length, getD, replicate};
+ghost use lib.ListN.{length, replicate};
 ghost use lib.Dec.{T, ltb};
 ghost use Rattle.rules.specs.Basics.{first};
 ghost use Rattle.rules.specs.Graph.{reaches, leaders as leadersOf, cycle as cycleOf};

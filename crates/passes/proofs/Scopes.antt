@@ -112,7 +112,8 @@ module _ (t₀ : List ℕ) (all : List Named) (t p : List ℕ) (at k : ℕ) wher
     args-more sp es q a = record {
       long = rw q (rowSet-length t nm (1 ∷ sp ∷ 1 ∷ [])) ∙ a .long;
       regs = λ l x. turn l x ∙ a .regs l x;
-      params = λ l x. rw q (reg-set-param t (a .long ∙ l) nm (en .1) 1 sp 1 x) ∙ a .params l x }
+      params = λ l x. rw q (reg-set-param t (a .long ∙ l) nm (en .1) 1 sp 1 x) ∙ a .params l x;
+    }
       where
         turn : length t₀ ≡ 2048 → (x : ℕ) → over (regIn t′ x) (map argument (rowIn namedIn 6 (k - 1) p next)) x ≡ over (regIn t x) (map argument (rowIn namedIn 6 k p at)) x
         turn l x =
@@ -124,7 +125,8 @@ module _ (t₀ : List ℕ) (all : List Named) (t p : List ℕ) (at k : ℕ) wher
     params-more q a = record {
       long = rw q (paramSet-length t nm) ∙ a .long;
       regs = λ l x. rw q (param-set-reg t (a .long ∙ l) nm (en .1) x) ∙ a .regs l x;
-      params = λ l x. turn l x ∙ a .params l x }
+      params = λ l x. turn l x ∙ a .params l x;
+    }
       where
         turn : length t₀ ≡ 2048 → (x : ℕ) → overs (paramIn t′ x) (rowIn namedIn 6 (k - 1) p next) x ≡ overs (paramIn t x) (rowIn namedIn 6 k p at) x
         turn l x = rw (q, param-set t (a .long ∙ l) nm (en .1) x, ex, named-here) (ap (λ z. overs (paramIn t x) z x) (sym (row-more namedIn 6 named-ends k p at h)))
@@ -143,12 +145,12 @@ pub body-scope : (gs : List Gate) (gates p : List ℕ) (l : List Field) (t₀ t�
 unfolding scopeIn bodyScope gateAtPlace argsIn paramsIn
 body-scope gs gates p l t₀ t₁ t₂ n k full zero-all heads en ek a b =
     let regs : regIn t₂ ≡ latest (map argument (rowIn namedIn 6 (getD p 12 0) p (rowPast 6 (getD p 11 0) 13))) = fun-ext (λ x.
-          b .regs (a .long ∙ full) x ∙ a .regs full x ∙ ap (λ f. over f (map argument (rowIn namedIn 6 k p (13 + 6 * n))) x) (zeros-reg t₀ zero-all x)
-          ∙ over-latest (map argument (rowIn namedIn 6 k p (13 + 6 * n))) x
-          ∙ (rw (ek, en, row-six (getD p 11 0) 13) refl)) in
+    b .regs (a .long ∙ full) x ∙ a .regs full x ∙ ap (λ f. over f (map argument (rowIn namedIn 6 k p (13 + 6 * n))) x) (zeros-reg t₀ zero-all x)
+    ∙ over-latest (map argument (rowIn namedIn 6 k p (13 + 6 * n))) x
+    ∙ (rw (ek, en, row-six (getD p 11 0) 13) refl)) in
     let params : paramIn t₂ ≡ isParam (rowIn namedIn 6 (getD p 11 0) p 13) = fun-ext (λ x.
-          b .params (a .long ∙ full) x ∙ ap (λ f. overs f (rowIn namedIn 6 n p 13) x) (a .params full x ∙ zeros-param t₀ zero-all x)
-          ∙ overs-param (rowIn namedIn 6 n p 13) x ∙ (rw en refl)) in
+    b .params (a .long ∙ full) x ∙ ap (λ f. overs f (rowIn namedIn 6 n p 13) x) (a .params full x ∙ zeros-param t₀ zero-all x)
+    ∙ overs-param (rowIn namedIn 6 n p 13) x ∙ (rw en refl)) in
     let heads′ : gateIn gates ≡ header gs = fun-ext (λ x. sym (heads x)) in
     rw (regs, params, heads′) refl
 
@@ -157,4 +159,5 @@ pub body-checked : (gates img : List ℕ) (from : ℕ) (p : List ℕ) (b : List 
     → (n ≡ getD p 11 0) × (n < 256) → (k ≡ getD p 12 0) × (k < 256) → ArgsSet t₀ (rowIn namedIn 6 k p (13 + 6 * n)) t₁ → ParamsSet t₁ (rowIn namedIn 6 n p 13) t₂
     → Said b s (stmtsErrors (scopeIn gates t₂) (stmts false (rest img from))) b′ r → BodyChecked gates img from p b s b′ r
 body-checked gates img from p b s b′ r t₀ t₁ t₂ n k full zero-all en ek x y w = record {
-  said = λ gs heads. subst (λ (C : Scope). Said b s (stmtsErrors C (stmts false (rest img from))) b′ r) (body-scope gs gates p (rest img from) t₀ t₁ t₂ n k full zero-all heads (en .0) (ek .0) x y) w }
+  said = λ gs heads. subst (λ (C : Scope). Said b s (stmtsErrors C (stmts false (rest img from))) b′ r) (body-scope gs gates p (rest img from) t₀ t₁ t₂ n k full zero-all heads (en .0) (ek .0) x y) w;
+}

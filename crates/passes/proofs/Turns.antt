@@ -89,7 +89,8 @@ module _ (gates regs img : List ℕ) (at : ℕ) (h : at < length img) (t : ℕ) 
     said = d .said;
     owed = rw (e, top-here img at t (nextIn img at) p h et ep refl (sym ek ∙ there), d .left) refl;
     on = d .past h (ap isStmt (sym et) ∙ sym ek ∙ there);
-    within = d .inside }
+    within = d .inside;
+  }
 
   pub body-stmt : (k : Bool) → k ≡ isStmt t → k ≡ true → (b′ : List ℕ) (r : Checked) → Done gates regs img at b s b′ r
       → Moves (bodies C img) img false at b s b′ (record { next = r .next; inside = false; sink = r .sink })
@@ -99,7 +100,8 @@ module _ (gates regs img : List ℕ) (at : ℕ) (h : at < length img) (t : ℕ) 
     said = d .said;
     owed = rw (stmt-here img at t (nextIn img at) p h et ep refl (sym ek ∙ there), d .left) refl;
     on = d .past h (ap isStmt (sym et) ∙ sym ek ∙ there);
-    within = d .inside }
+    within = d .inside;
+  }
 
   pub body-other : (t ≡ 6 → ⊥) → (k : Bool) → k ≡ isStmt t → k ≡ false → (n : ℕ) → n ≡ nextIn img at
       → Moves (bodies C img) img false at b s b (record { next = n; inside = false; sink = s })
@@ -145,9 +147,11 @@ module _ (gates img : List ℕ) (at : ℕ) (h : at < length img) (t : ℕ) (et :
       said = w .said gs heads;
       owed = opened e f gs ∙ (rw k refl);
       on = omega arith;
-      within = omega arith };
+      within = omega arith;
+    };
     on = omega arith;
-    within = omega arith }
+    within = omega arith;
+  }
 
 -- what is owed whatever the gates are
 abbrev pub DefsOwed : (gates img b₀ : List ℕ) → Sink → List ℕ → Sink → Bool → ℕ → Type 0

@@ -1,4 +1,4 @@
-// The passes over an image, after typing.rs: collect_decls, collect_regs, check_gates, check_defs.
+// The passes over gate bodies and over the program, after typing.rs: check_gates and check_defs.
 ghost use mathlib.Core.Path.{_≡_};
 ghost use mathlib.Core.List.{[], _∷_, _++_, map};
 ghost use mathlib.Core.Bool.{Bool, true, false};
@@ -13,7 +13,6 @@ ghost use Rattle.views.specs.Steps.{then};
 ghost use Rattle.output.specs.Sinks.{Said};
 ghost use Rattle.tables.specs.Tables.{gateIn, regIn, scopeIn};
 ghost use Rattle.passes.specs.Passes.{Moves, ArgsSet, ParamsSet, BodyChecked, DefMoves, DefsSaid};
-
 use items::along;
 use items::byte_at;
 use items::four_at;
@@ -27,9 +26,9 @@ use tables::find_reg;
 use tables::set_gate;
 use tables::set_param;
 use tables::set_reg;
+use typing::Checked;
 use typing::check_stmt;
 use typing::is_stmt;
-use typing::Checked;
 use views::is_one;
 use views::load;
 use views::name;
@@ -59,7 +58,15 @@ pub fn then_inside(inside: bool, tag: u64, p: &[u8]) -> bool
 // ---- top-level statements
 
 // One field, or one statement with what its IFs govern.
-fn top_step(out: &mut [u8], s: Sink, img: &[u8], at: usize, inside: bool, gates: &[u64], regs: &[u64]) -> Step
+fn top_step(
+    out: &mut [u8],
+    s: Sink,
+    img: &[u8],
+    at: usize,
+    inside: bool,
+    gates: &[u64],
+    regs: &[u64],
+) -> Step
     requires { ⌜ at < length (now img) ⌝ }
     ensures { λ r. ⌜ Moves (λ i at. topErrors (scopeIn (now (gates .entry)) (now (regs .entry))) (decls i false (rest (now (img .entry)) at))) (now (img .entry)) inside at (now (out .entry)) s (now (out .exit)) r ⌝ }
 {
@@ -106,7 +113,15 @@ pub fn check_gates(out: &mut [u8], s: Sink, img: &[u8], gates: &[u64], regs: &[u
 // ---- bodies
 
 // One field of a body that is not its END.
-fn body_step(out: &mut [u8], s: Sink, img: &[u8], at: usize, tag: u64, gates: &[u64], regs: &[u64]) -> Checked
+fn body_step(
+    out: &mut [u8],
+    s: Sink,
+    img: &[u8],
+    at: usize,
+    tag: u64,
+    gates: &[u64],
+    regs: &[u64],
+) -> Checked
     requires { ⌜ (at < length (now img)) × (tag ≡ getD (now img) at 0) × (tag ≡ 6 → ⊥) ⌝ }
     ensures { λ r. ⌜ Moves (λ i at. stmtsErrors (scopeIn (now (gates .entry)) (now (regs .entry))) (stmts false (rest (now (img .entry)) at))) (now (img .entry)) false at (now (out .entry)) s (now (out .exit)) (record { next = r .next; inside = false; sink = r .sink }) ⌝ }
 {
@@ -123,7 +138,10 @@ fn body_step(out: &mut [u8], s: Sink, img: &[u8], at: usize, tag: u64, gates: &[
 fn check_body(out: &mut [u8], s: Sink, img: &[u8], from: usize, gates: &[u64], regs: &[u64]) -> Sink
     ensures { λ r. ⌜ Said (now (out .entry)) s (stmtsErrors (scopeIn (now (gates .entry)) (now (regs .entry))) (stmts false (rest (now (img .entry)) from))) (now (out .exit)) r ⌝ }
 {
-    let mut w = Checked { next: from, sink: s };
+    let mut w = Checked {
+        next: from,
+        sink: s,
+    };
     while w.next < img.len() {
         let tag = byte_at(img, w.next);
         if tag == 6 {

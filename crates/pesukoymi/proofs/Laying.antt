@@ -16,11 +16,13 @@ use Rattle.pesukoymi.specs.Boundary.{Laid, Called}
 pub answer-laid : (a : Answer) (s s₁ s₂ s₃ : List ℕ) (x y z n m k : ℕ) → x ≡ number a → y ≡ values a .0 → z ≡ values a .1
     → Wrote s 0 (bytes8 x) s₁ n → Wrote s₁ n (bytes8 y) s₂ m → Wrote s₂ m (bytes8 z) s₃ k → Laid a s s₃
 unfolding answerBytes
-answer-laid a s s₁ s₂ s₃ x y z n m k ex ey ez w₁ w₂ w₃ = record { front = λ fits room.
-    let w = wrote-then w₁ (wrote-then w₂ w₃) in
-    let bs : List ℕ = bytes8 x ++ (bytes8 y ++ bytes8 z) in
-    let h : 0 + length bs ≤ length s = room in
-    w .buffer fits ∙ sets-eq bs s 0 h ∙ (rw (ex, ey, ez) refl) }
+answer-laid a s s₁ s₂ s₃ x y z n m k ex ey ez w₁ w₂ w₃ = record {
+  front = λ fits room.
+      let w = wrote-then w₁ (wrote-then w₂ w₃) in
+      let bs : List ℕ = bytes8 x ++ (bytes8 y ++ bytes8 z) in
+      let h : 0 + length bs ≤ length s = room in
+      w .buffer fits ∙ sets-eq bs s 0 h ∙ (rw (ex, ey, ez) refl);
+}
 
 pub called-short : (x : Result) (out answer : List ℕ) → length answer < 24 → Called x out answer out answer
 called-short x out answer h = record { short = λ k. (refl, refl); long = λ k. absurd (omega arith) }
@@ -29,4 +31,5 @@ pub called-long : (x : Result) (out answer out′ answer′ : List ℕ) (a : Ans
     → Called x out answer out′ answer′
 called-long x out answer out′ answer′ a h fits g l = record {
   short = λ k. absurd (omega arith);
-  long = λ k. (g .buffer, l .front fits k ∙ ap (λ z. answerBytes z ++ drop 24 answer) (g .answer)) }
+  long = λ k. (g .buffer, l .front fits k ∙ ap (λ z. answerBytes z ++ drop 24 answer) (g .answer));
+}

@@ -2,7 +2,6 @@
 ghost use mathlib.Core.Path.{_≡_};
 ghost use Rattle.rules.specs.Answers.{number, values, answerBytes, check as checked};
 ghost use Rattle.pesukoymi.specs.Boundary.{Called, Laid};
-
 use checks::check;
 use output::put8;
 use rules::Answer;
@@ -12,7 +11,10 @@ fn number_of(a: Answer) -> u64
 {
     match a {
         Answer::Done { items: _, bytes: _ } => 0,
-        Answer::Errors { errors: _, bytes: _ } => 1,
+        Answer::Errors {
+            errors: _,
+            bytes: _,
+        } => 1,
         Answer::Refused { number, offset: _ } => number,
         Answer::Rejected => 8,
         Answer::Machine => 9,
@@ -41,7 +43,10 @@ fn second_of(a: Answer) -> u64
     match a {
         Answer::Done { items: _, bytes } => bytes as u64,
         Answer::Errors { errors: _, bytes } => bytes as u64,
-        Answer::Refused { number: _, offset: _ } => 0,
+        Answer::Refused {
+            number: _,
+            offset: _,
+        } => 0,
         Answer::Rejected => 0,
         Answer::Machine => 0,
         Answer::Entries => 0,

@@ -87,6 +87,5 @@ module _ (t : List ℕ) (x : ℕ) where
     unfolding rowSet
     row-four d t₄ q₄ = rw (lt-ltb x 512 h, q₄, three, e, three-more (4 * x)) refl
 
-
 pub store-out : (t : List ℕ) (i v : ℕ) → length t ≤ i → t ≡ set t i v
 store-out t i v h = sym (set-out t i v h)

@@ -145,7 +145,8 @@ module _ (gates regs img : List ℕ) (at : ℕ) (b : List ℕ) (s : Sink) where
     left = rw (rest-end img at h, rest-end img (length img) (omega arith)) refl;
     inside = omega arith;
     on = λ k. k;
-    past = λ l e. absurd (omega arith) }
+    past = λ l e. absurd (omega arith);
+  }
 
   module _ (h : at < length img) (t : ℕ) (et : (t ≡ getD img at 0) × (t < 256)) (p : List ℕ) (ep : p ≡ load-at img at) (n : ℕ) (en : n ≡ nextIn img at) where
     pub done-plain : (t ≡ 22 → ⊥) → (k : Bool) → k ≡ isStmt t → k ≡ true → (b′ : List ℕ) (s′ : Sink) → Said b s (stmtErrors (scopeIn gates regs) (stmtIn t p)) b′ s′
@@ -174,6 +175,7 @@ module _ (gates regs img : List ℕ) (at : ℕ) (b : List ℕ) (s : Sink) where
           left = d .left ∙ sym (q .1);
           inside = d .inside;
           on = λ l. let k : n ≤ length img = omega arith in omega (arith, d .on k);
-          past = λ l q. let k : n ≤ length img = omega arith in omega (arith, d .on k) }
+          past = λ l q. let k : n ≤ length img = omega arith in omega (arith, d .on k);
+        }
 
 pub ruleset done-laws = (done-end, done-plain, done-none, done-if)

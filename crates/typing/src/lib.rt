@@ -1,4 +1,4 @@
-// Statements, declarations and bodies, after typing.rs.
+// Statements, after typing.rs: check_stmt.
 ghost use mathlib.Core.Path.{_≡_};
 ghost use mathlib.Core.List.{[], _∷_, _++_};
 ghost use mathlib.Core.Bool.{Bool, true, false};
@@ -14,7 +14,6 @@ ghost use Rattle.views.specs.View.{operandIn, uIn, barrierIn, callIn, stmtIn, r
 ghost use Rattle.output.specs.Sinks.{Said};
 ghost use Rattle.tables.specs.Tables.{scopeIn};
 ghost use Rattle.typing.specs.Checked.{Done};
-
 use asserts::assert_def;
 use asserts::assert_reg;
 use asserts::assert_regs;
@@ -124,11 +123,21 @@ pub fn is_stmt(tag: u64) -> bool
 }
 
 // The statement that stands at a place. An IF's governs the field right after it: first its operand, then that statement, then its value.
-pub fn check_stmt(out: &mut [u8], s: Sink, img: &[u8], at: usize, gates: &[u64], regs: &[u64]) -> Checked
+pub fn check_stmt(
+    out: &mut [u8],
+    s: Sink,
+    img: &[u8],
+    at: usize,
+    gates: &[u64],
+    regs: &[u64],
+) -> Checked
     ensures { λ r. ⌜ Done (now (gates .entry)) (now (regs .entry)) (now (img .entry)) at (now (out .entry)) s (now (out .exit)) r ⌝ }
 {
     if img.len() <= at {
-        return Checked { next: img.len(), sink: s };
+        return Checked {
+            next: img.len(),
+            sink: s,
+        };
     }
     let tag = byte_at(img, at);
     let p = load(img, at);
@@ -139,11 +148,17 @@ pub fn check_stmt(out: &mut [u8], s: Sink, img: &[u8], at: usize, gates: &[u64],
         let a = assert_reg(out, s, regs, o, span, true);
         let b = check_stmt(out, a, img, behind, gates, regs);
         let c = assert_scalar_size(out, b.sink, regs, o, four_at(p, 19), eight_at(p, 23), span);
-        return Checked { next: b.next, sink: c };
+        return Checked {
+            next: b.next,
+            sink: c,
+        };
     }
     if is_stmt(tag) {
         let a = check_plain(out, s, tag, p, gates, regs);
-        return Checked { next: behind, sink: a };
+        return Checked {
+            next: behind,
+            sink: a,
+        };
     }
     Checked { next: at, sink: s }
 }

@@ -58,6 +58,7 @@ from-few (suc k) c few small ns img at l p = go (eqb at (length img)) refl (λ d
   where
     IH : Type 0
     IH = (d : Counts) → d .names ≤ 512 → d .gates ≤ 128 → (ms : List (List ℕ)) (m : ℕ) (l′ : List Field) → from k d ms img m ≡ fields l′ → d .gates + gateFields l′ ≤ 128
+
     after : (g : Got Field) → field c ns img at ≡ g → IH
         → either g (λ j. refused j at) (λ f m. more f (from k (next c (getD img at 0) (load-at img at)) (names-then ns (getD img at 0) (load-at img at)) img m)) ≡ fields l
         → c .gates + gateFields l ≤ 128
@@ -69,6 +70,7 @@ from-few (suc k) c few small ns img at l p = go (eqb at (length img)) refl (λ d
         let h = ih (next c (getD img at 0) (load-at img at)) (names-within c (load-at img at) (getD img at 0) w few) (gates-within c (load-at img at) (getD img at 0) w small) _ m (r .0) (r .1) in
         let n : gateFields l ≡ pick (eqb (getD img at 0) 5) 1 0 + gateFields (r .0) = ap gateFields (r .2) ∙ ap (λ x. gateFields (x ∷ r .0)) (i .0) ∙ counted (load-at img at) (r .0) (getD img at 0) in
         omega arith
+
     go : (b : Bool) → eqb at (length img) ≡ b → IH → c .gates + gateFields l ≤ 128
     go true e ih = let z = at-end (c .body || ltb 0 (c .ifs)) at l (rw e at p) in rw z (omega arith)
     go false e ih = after (field c ns img at) refl ih (rw e at p)

@@ -2,7 +2,7 @@
 
 use crate::ast::Program;
 use crate::check;
-use crate::errors;
+use crate::errors::{self, Error};
 use crate::form::limit;
 use crate::order;
 use crate::read::read;
@@ -24,67 +24,76 @@ pub enum Service {
 
 pub const SERVICES: [Service; 3] = [Service::Check, Service::Order, Service::Expand];
 
+/// An answer where there is room for everything, and the bytes that are then written.
+#[derive(Debug, Clone, PartialEq, Eq)]
+pub struct Full {
+    pub answer: Answer,
+    pub bytes: Vec<u8>,
+}
+
+impl Full {
+    /// The answer in this much room: short room is looked at last, after every other refusal.
+    pub fn within(&self, room: usize) -> Answer {
+        match self.bytes.len() > room {
+            true => Answer { number: 11, ..self.answer },
+            false => self.answer,
+        }
+    }
+}
+
+/// What each service says of an image, in the order of `SERVICES`.
+pub fn answers(image: &[u8]) -> [Full; 3] {
+    let program = match read(image) {
+        Ok(program) => program,
+        Err(refusal) => return SERVICES.map(|_| refused(refusal.number.into(), refusal.offset as u64)),
+    };
+    let found = check::errors(&program);
+    SERVICES.map(|service| service.of(&program, &found))
+}
+
 impl Service {
     /// Answers for an image, writing to `out` only where the answer is 0 or 1.
     pub fn answer(self, image: &[u8], out: &mut [u8]) -> Answer {
-        match self.result(image) {
-            Err(refusal) => refusal,
-            Ok(done) => done.write(out),
+        let full = match read(image) {
+            Ok(program) => self.of(&program, &check::errors(&program)),
+            Err(refusal) => refused(refusal.number.into(), refusal.offset as u64),
+        };
+        if let Some(room) = out.get_mut(..full.bytes.len()) {
+            room.copy_from_slice(&full.bytes);
         }
+        full.within(out.len())
     }
 
-    /// What a buffer with room for everything would get, or the refusal that comes before its room is looked at.
-    fn result(self, image: &[u8]) -> Result<Done, Answer> {
-        let program = match read(image) {
-            Ok(program) => program,
-            Err(refusal) => return Err(refused(refusal.number.into(), refusal.offset as u64)),
-        };
-        let found = check::errors(&program);
+    /// The answer for a program in which check found these errors.
+    fn of(self, program: &Program, found: &[Error]) -> Full {
         match self {
-            Service::Check => {
-                let number = u64::from(!found.is_empty());
-                Ok(Done { number, items: found.len(), bytes: errors::encode(&found) })
-            }
-            _ if !found.is_empty() => Err(refused(8, 0)),
+            Service::Check => done(u64::from(!found.is_empty()), found.len(), errors::encode(found)),
+            _ if !found.is_empty() => refused(8, 0),
             Service::Order => {
-                let bytes: Vec<u8> = order::order(&program).into_iter().map(|gate| gate as u8).collect();
-                Ok(Done { number: 0, items: bytes.len(), bytes })
+                let bytes: Vec<u8> = order::order(program).into_iter().map(|gate| gate as u8).collect();
+                done(0, bytes.len(), bytes)
             }
-            Service::Expand => expand(&program),
+            Service::Expand => expand(program),
         }
     }
 }
 
-fn expand(program: &Program) -> Result<Done, Answer> {
+fn expand(program: &Program) -> Full {
     let (quantum, classical) = run::totals(program);
     if quantum > limit::BITS || classical > limit::BITS {
-        return Err(refused(9, 0));
+        return refused(9, 0);
     }
     if run::count(program) > limit::ENTRIES {
-        return Err(refused(10, 0));
+        return refused(10, 0);
     }
     let entries = run::entries(program);
-    let bytes = entries.iter().flat_map(run::Entry::encode).collect();
-    Ok(Done { number: 0, items: entries.len(), bytes })
+    done(0, entries.len(), entries.iter().flat_map(run::Entry::encode).collect())
 }
 
-fn refused(number: u64, first: u64) -> Answer {
-    Answer { number, first, second: 0 }
+fn refused(number: u64, first: u64) -> Full {
+    Full { answer: Answer { number, first, second: 0 }, bytes: Vec::new() }
 }
 
-struct Done {
-    number: u64,
-    items: usize,
-    bytes: Vec<u8>,
-}
-
-impl Done {
-    fn write(self, out: &mut [u8]) -> Answer {
-        let (first, second) = (self.items as u64, self.bytes.len() as u64);
-        let Some(room) = out.get_mut(..self.bytes.len()) else {
-            return Answer { number: 11, first, second };
-        };
-        room.copy_from_slice(&self.bytes);
-        Answer { number: self.number, first, second }
-    }
+fn done(number: u64, items: usize, bytes: Vec<u8>) -> Full {
+    Full { answer: Answer { number, first: items as u64, second: bytes.len() as u64 }, bytes }
 }

@@ -3,6 +3,7 @@
 
 pub mod answer;
 pub mod ast;
+pub mod build;
 pub mod bytes;
 pub mod calls;
 pub mod cases;
@@ -14,5 +15,6 @@ pub mod generate;
 pub mod order;
 pub mod read;
 pub mod run;
+pub mod sample;
 pub mod specimens;
 pub mod text;

@@ -1,6 +1,7 @@
 //! Small programs written by hand: the specimens of 01 and the places where a wrong build would go astray.
 
 use crate::ast::*;
+use crate::build::*;
 
 /// Every specimen whose image is small, for the list of the Rust's answers.
 pub fn all() -> Vec<Program> {
@@ -35,63 +36,6 @@ fn recursions() -> Vec<Program> {
     let mut all: Vec<Program> = edges.iter().map(|edges| calling(4, edges)).collect();
     all.extend([redefinition_closes(), wrong_arity_in_cycle(), call_under_if(), undeclared_call()]);
     all
-}
-
-fn program(names: usize, decls: Vec<Decl>) -> Program {
-    Program { names: (0..names).map(name).collect(), decls }
-}
-
-/// a to z, then a1 and so on.
-fn name(number: usize) -> Vec<u8> {
-    let digits = if number < 26 { String::new() } else { (number / 26).to_string() };
-    [&[b'a' + (number % 26) as u8], digits.as_bytes()].concat()
-}
-
-fn symbol(span: u32, name: u16) -> Symbol {
-    Symbol { span, name }
-}
-
-fn symbols(span: u32, names: &[u16]) -> Vec<Symbol> {
-    (span..).zip(names).map(|(span, &name)| symbol(span, name)).collect()
-}
-
-fn whole(span: u32, name: u16) -> Operand {
-    Operand { span, name, index: None }
-}
-
-fn expr(span: u32, node: Node) -> Expr {
-    Expr { span, node }
-}
-
-fn stmt(span: u32, action: Action) -> Stmt {
-    Stmt { span, action }
-}
-
-fn empty_barrier(span: u32) -> Stmt {
-    stmt(span, Action::Barrier { regs: Vec::new() })
-}
-
-fn register(span: u32, kind: Kind, name: u16, size: u64) -> Decl {
-    Decl::Register(Register { span, kind, operand: Operand { span: span + 1, name, index: Some(size) } })
-}
-
-fn gate(span: u32, name: u16, params: &[u16], args: &[u16], body: Option<Vec<Stmt>>) -> Decl {
-    let (params, args) = (symbols(span + 2, params), symbols(span + 40, args));
-    Decl::Gate(Gate { span, name: symbol(span + 1, name), params, args, body })
-}
-
-fn call(span: u32, name: u16, args: &[u16]) -> Stmt {
-    let args = (span + 2..).zip(args).map(|(span, &name)| whole(span, name)).collect();
-    stmt(span, Action::Call(Call { name: symbol(span + 1, name), args, params: Vec::new() }))
-}
-
-fn condition(span: u32, name: u16, value: u64, then: Stmt) -> Stmt {
-    let reg = whole(span + 1, name);
-    stmt(span, Action::If(Box::new(If { reg, value_span: span + 2, value, then })))
-}
-
-fn pis(span: u32) -> [Expr; 3] {
-    [0, 1, 2].map(|angle| expr(span + angle, Node::Pi))
 }
 
 /// U on undeclared q: the specimen that 01 gives byte by byte.

@@ -10,20 +10,29 @@ use model::calls::Calls;
 
 /// The Rust's program; none if a name is not UTF-8.
 pub fn convert(program: &Program) -> Option<ast::Program> {
+    converted(program, Some(Calls::of(program)))
+}
+
+/// The same without what cycles are checked with, whose search would tell in a measurement.
+pub fn plain(program: &Program) -> Option<ast::Program> {
+    converted(program, None)
+}
+
+fn converted(program: &Program, calls: Option<Calls>) -> Option<ast::Program> {
     let symbol = |name: &Vec<u8>| std::str::from_utf8(name).ok().map(ast::Symbol::new);
     let names = program.names.iter().map(symbol).collect::<Option<Vec<_>>>()?;
-    let mut converter = Converter { names, calls: Calls::of(program), caller: 0 };
+    let mut converter = Converter { names, calls, caller: 0 };
     Some(ast::Program { decls: program.decls.iter().map(|decl| converter.decl(decl)).collect() })
 }
 
 struct Converter<'a> {
     names: Vec<ast::Symbol>,
-    calls: Calls<'a>,
+    calls: Option<Calls<'a>>,
     /// The gate whose body is being converted.
     caller: usize,
 }
 
-fn plain(start: u32) -> FileSpan {
+fn at_start(start: u32) -> FileSpan {
     FileSpan { start: start as usize, end: 0, file: 0 }
 }
 
@@ -34,23 +43,23 @@ fn at<T>(span: FileSpan, inner: T) -> Span<T> {
 impl Converter<'_> {
     fn decl(&mut self, decl: &Decl) -> Span<ast::Decl> {
         match decl {
-            Decl::Include(file) => at(plain(file.span), ast::Decl::Include { file: self.symbol(file) }),
+            Decl::Include(file) => at(at_start(file.span), ast::Decl::Include { file: self.symbol(file) }),
             Decl::Register(register) => {
                 let reg = self.operand(&register.operand);
                 let decl = match register.kind {
                     Kind::Quantum => ast::Decl::QReg { reg },
                     Kind::Classical => ast::Decl::CReg { reg },
                 };
-                at(plain(register.span), decl)
+                at(at_start(register.span), decl)
             }
             Decl::Gate(gate) => self.gate(gate),
-            Decl::Stmt(stmt) => at(plain(stmt.span), ast::Decl::Stmt(self.stmt(stmt))),
+            Decl::Stmt(stmt) => at(at_start(stmt.span), ast::Decl::Stmt(self.stmt(stmt))),
         }
     }
 
     fn gate(&mut self, gate: &Gate) -> Span<ast::Decl> {
-        self.caller = self.calls.number(gate.name.name).expect("every gate has a number");
-        let span = FileSpan { end: self.caller, ..plain(gate.span) };
+        self.caller = self.number(gate.name.name);
+        let span = FileSpan { end: self.caller, ..at_start(gate.span) };
         let def = ast::Decl::Def {
             name: self.symbol(&gate.name),
             params: gate.params.iter().map(|param| self.symbol(param)).collect(),
@@ -60,25 +69,29 @@ impl Converter<'_> {
         at(span, def)
     }
 
+    /// A gate's number; 0 for what is no gate, whose calls are in no cycle.
+    fn number(&self, name: u16) -> usize {
+        self.calls.as_ref().and_then(|calls| calls.number(name)).unwrap_or(0)
+    }
+
     fn name(&self, name: u16) -> ast::Symbol {
         self.names[usize::from(name)].clone()
     }
 
     fn symbol(&self, symbol: &Symbol) -> Span<ast::Symbol> {
-        at(plain(symbol.span), self.name(symbol.name))
+        at(at_start(symbol.span), self.name(symbol.name))
     }
 
     fn operand(&self, operand: &Operand) -> Span<ast::Reg> {
-        at(plain(operand.span), ast::Reg { name: self.name(operand.name), index: operand.index })
+        at(at_start(operand.span), ast::Reg { name: self.name(operand.name), index: operand.index })
     }
 
     fn stmt(&self, stmt: &Stmt) -> Span<ast::Stmt> {
         let span = match &stmt.action {
             Action::Call(call) => {
-                let file = self.calls.number(call.name.name).unwrap_or(0);
-                FileSpan { end: self.caller, file, ..plain(stmt.span) }
+                FileSpan { end: self.caller, file: self.number(call.name.name), ..at_start(stmt.span) }
             }
-            _ => plain(stmt.span),
+            _ => at_start(stmt.span),
         };
         at(span, self.action(&stmt.action))
     }
@@ -106,7 +119,7 @@ impl Converter<'_> {
             },
             Action::If(condition) => ast::Stmt::Conditional {
                 reg: self.operand(&condition.reg),
-                val: at(plain(condition.value_span), condition.value),
+                val: at(at_start(condition.value_span), condition.value),
                 then: self.stmt(&condition.then),
             },
         }
@@ -121,7 +134,7 @@ impl Converter<'_> {
             Node::Binary(operator, left, right) => binary(*operator)(self.expr(left), self.expr(right)),
             Node::Unary(operator, operand) => unary(*operator)(self.expr(operand)),
         };
-        at(plain(expr.span), node)
+        at(at_start(expr.span), node)
     }
 }
 

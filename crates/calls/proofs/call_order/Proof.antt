@@ -1,5 +1,5 @@
 use borrow.Author.Needs.{needs}
-use mathlib.Core.Path.{_≡_, refl, sym, _∙_}
+use mathlib.Core.Path.{_∙_}
 use Rattle.calls.proofs.Groups.{same-order}
 use Rattle.calls.proofs.call_order.Statement.{statement}
 use Rattle.calls.proofs.call_order.Tie as tie

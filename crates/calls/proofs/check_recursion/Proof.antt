@@ -1,5 +1,5 @@
 use borrow.Author.Needs.{needs}
-use mathlib.Core.Path.{_≡_, refl, sym, _∙_}
+use mathlib.Core.Path.{_∙_}
 use Rattle.calls.proofs.Groups.{same-leaders, none-told}
 use Rattle.calls.proofs.check_recursion.Statement.{statement}
 use Rattle.calls.proofs.check_recursion.Tie as tie

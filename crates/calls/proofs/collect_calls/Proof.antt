@@ -1,8 +1,7 @@
 use borrow.Author.Needs.{needs}
 use Prim.Native.Nat.{_-_}
-use mathlib.Core.Path.{_≡_, refl, sym, _∙_}
+use mathlib.Core.Path.{_≡_, refl, _∙_}
 use mathlib.Core.List.{List}
-use native.Mathlib.Omega.{arith}
 use lib.ListN.{length}
 use Rattle.rules.specs.Syntax.{Gate}
 use Rattle.views.specs.View.{rest}
@@ -35,8 +34,8 @@ collect-calls-spec =
     (λ c. (
       ((c .before .before .before .visit .kept .1 .1 .1 .1 .1 .1 .0)) ∙ ((c .before .before .before .before .before .before .before .before .before .loop .inv .0)),
       λ gs N.
-      let v = ((c .before .before .before .visit .ensures .1)) gs N in
-      rw (v .place) (left-less _ _ _ _ _ _ _ _ (((c .before .before .before .before .before .before .before .before .before .loop .inv .1)) gs N) (field-calls gs _ _ _ _ _ _ ((c .before .before .before .before .before .before .before .before .loop-test .taken)) ((c .before .before .before .before .before .before .byte-at .ensures .0)) ((c .before .before .before .before .before .before .before .load .ensures)) ((c .next .ensures))) (v .added)),
+          let v = ((c .before .before .before .visit .ensures .1)) gs N in
+          rw (v .place) (left-less _ _ _ _ _ _ _ _ (((c .before .before .before .before .before .before .before .before .before .loop .inv .1)) gs N) (field-calls gs _ _ _ _ _ _ ((c .before .before .before .before .before .before .before .before .loop-test .taken)) ((c .before .before .before .before .before .before .byte-at .ensures .0)) ((c .before .before .before .before .before .before .before .load .ensures)) ((c .next .ensures))) (v .added)),
       (c .before .before .before .visit .ensures .0),
     ))
     (λ c. search needs)

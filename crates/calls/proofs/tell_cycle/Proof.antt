@@ -1,5 +1,5 @@
 use borrow.Author.Needs.{needs}
-use mathlib.Core.Path.{_≡_, refl, sym, _∙_}
+use mathlib.Core.Path.{refl}
 use Rattle.calls.proofs.Pairs.{cycle-told}
 use Rattle.calls.proofs.tell_cycle.Statement.{statement}
 use Rattle.calls.proofs.tell_cycle.Tie as tie

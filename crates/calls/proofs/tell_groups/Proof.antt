@@ -1,6 +1,6 @@
 use borrow.Author.Needs.{needs}
 use Prim.Native.Nat.{_≤_, _-_}
-use mathlib.Core.Path.{_≡_, refl, sym, _∙_}
+use mathlib.Core.Path.{_≡_, refl, _∙_}
 use native.Mathlib.Omega.{arith}
 use mathlib.Core.List.{List, map}
 use lib.ListN.{length, take, drop}
@@ -38,9 +38,9 @@ tell-groups-spec =
       search needs,
       ((c .before .before .tell-group .kept .0)) ∙ ((c .before .before .before .before .before .loop .inv .1)),
       λ gs cs S e.
-      let fit = fits ((c .before .before .before .before .before .before .before .before .before .before .before .args .lowest .gates)) _ _ (search needs) ((c .before .before .before .before .before .before .at-most .ensures)) in
-      let g = group-leads gs cs _ _ _ _ S _ _ e fit _ ((c .before .before .before .before .loop-test .taken)) in
-      groups-more gs cs _ _ _ _ S _ _ e fit _ ((c .before .before .before .before .loop-test .taken)) _ _ _ _ _ _ (((c .before .before .before .before .before .loop .inv .2)) gs cs S e) (((c .before .before .tell-group .ensures)) gs cs S (g .0) (g .1)),
+          let fit = fits ((c .before .before .before .before .before .before .before .before .before .before .before .args .lowest .gates)) _ _ (search needs) ((c .before .before .before .before .before .before .at-most .ensures)) in
+          let g = group-leads gs cs _ _ _ _ S _ _ e fit _ ((c .before .before .before .before .loop-test .taken)) in
+          groups-more gs cs _ _ _ _ S _ _ e fit _ ((c .before .before .before .before .loop-test .taken)) _ _ _ _ _ _ (((c .before .before .before .before .before .loop .inv .2)) gs cs S e) (((c .before .before .tell-group .ensures)) gs cs S (g .0) (g .1)),
     ))
     (λ c. search needs)
     (λ c. λ gs cs S e. let q = fits-all ((c .before .before .before .before .before .before .before .args .lowest .gates)) _ _ (search needs) ((c .before .before .at-most .ensures)) ∙ e in groups-end gs cs _ _ _ _ S _ _ q (fits ((c .before .before .before .before .before .before .before .args .lowest .gates)) _ _ (search needs) ((c .before .before .at-most .ensures))) _ ((c .loop-test .left)) _ _ _ _ (((c .before .loop .inv .2)) gs cs S q)))

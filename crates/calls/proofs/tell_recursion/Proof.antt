@@ -1,5 +1,4 @@
 use borrow.Author.Needs.{needs}
-use lib.ListN.{length-replicate}
 use Rattle.calls.proofs.tell_recursion.Statement.{statement}
 use Rattle.calls.proofs.tell_recursion.Tie as tie
 

@@ -1,5 +1,5 @@
 use borrow.Author.Needs.{needs}
-use Prim.Native.Nat.{ℕ, _≤_, _<_, _-_}
+use Prim.Native.Nat.{_≤_, _-_}
 use Rattle.graph.specs.Rows.{linked}
 use Rattle.graph.proofs.Groups.{linked-within, Closing, closing-none, closing-more, closing-all}
 use Rattle.graph.proofs.closed.Statement.{statement}

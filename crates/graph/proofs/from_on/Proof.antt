@@ -1,5 +1,5 @@
 use borrow.Author.Needs.{needs}
-use Prim.Native.Nat.{ℕ, _≤_, _<_, _-_}
+use Prim.Native.Nat.{_≤_, _-_}
 use Rattle.graph.proofs.Placing.{Beyond, beyond-none, beyond-more, beyond-all}
 use Rattle.graph.proofs.from_on.Statement.{statement}
 use Rattle.graph.proofs.from_on.Tie as tie

@@ -1,5 +1,5 @@
 use borrow.Author.Needs.{needs}
-use Prim.Native.Nat.{ℕ, _≤_, _<_, _-_}
+use Prim.Native.Nat.{_≤_, _-_}
 use mathlib.Core.Logic.{⊎-elim}
 use borrow.Author.Tests.{not-true, not-false}
 use Rattle.graph.specs.Rows.{Spread}
@@ -34,10 +34,10 @@ further-spec =
     (λ c. (
       search needs,
       ⊎-elim
-      (λ w. rw (w .5, w .6) (spread-on _ _ _ _ _ (omega arith) _ _ ((c .before .before .before .loop .inv .1)) _ ((c .before .contains .ensures)) (not-true _ (w .0 .taken)) _ (w .1 .ensures) _ (w .2 .ensures) (w .3 .taken) _ (w .4 .ensures)))
-      (⊎-elim
-      (λ w. rw (w .4, w .5) (spread-off _ _ _ _ _ (omega arith) _ _ ((c .before .before .before .loop .inv .1)) _ ((c .before .contains .ensures)) (not-true _ (w .0 .taken)) _ (w .1 .ensures) _ (w .2 .ensures) (w .3 .left)))
-      (λ w. rw (w .1, w .2) (spread-near _ _ _ _ _ (omega arith) _ _ ((c .before .before .before .loop .inv .1)) _ ((c .before .contains .ensures)) (not-false _ (w .0 .left)))))
-      (c .if1 .came),
+          (λ w. rw (w .5, w .6) (spread-on _ _ _ _ _ (omega arith) _ _ ((c .before .before .before .loop .inv .1)) _ ((c .before .contains .ensures)) (not-true _ (w .0 .taken)) _ (w .1 .ensures) _ (w .2 .ensures) (w .3 .taken) _ (w .4 .ensures)))
+          (⊎-elim
+          (λ w. rw (w .4, w .5) (spread-off _ _ _ _ _ (omega arith) _ _ ((c .before .before .before .loop .inv .1)) _ ((c .before .contains .ensures)) (not-true _ (w .0 .taken)) _ (w .1 .ensures) _ (w .2 .ensures) (w .3 .left)))
+          (λ w. rw (w .1, w .2) (spread-near _ _ _ _ _ (omega arith) _ _ ((c .before .before .before .loop .inv .1)) _ ((c .before .contains .ensures)) (not-false _ (w .0 .left)))))
+          (c .if1 .came),
     ))
     (λ c. spread-all _ _ _ _ _ _ _ _ ((c .before .loop .inv .0)) ((c .loop-test .left)) ((c .before .loop .inv .1))))

@@ -1,5 +1,5 @@
 use borrow.Author.Needs.{needs}
-use Prim.Native.Nat.{ℕ, _≤_, _<_, _-_}
+use Prim.Native.Nat.{ℕ, _≤_, _-_}
 use mathlib.Core.Logic.{⊎-elim}
 use mathlib.Core.Path.{_∙_}
 use mathlib.Core.Bool.{Bool}
@@ -33,11 +33,11 @@ leaders-spec =
     (λ c. (
       search needs,
       λ E R.
-      let same = ((c .before .leads .ensures)) ∙ leads-same _ E _ R _ ((c .before .before .before .before .loop-test .taken)) in
-      ⊎-elim
-      (λ w. rw (w .1, w .2) (leading-yes _ E _ _ _ ((c .before .before .before .before .loop-test .taken)) (((c .before .before .before .before .before .loop .inv .1)) E R) _ same (w .0 .taken) ((c .before .before .before .before .before .before .before .if1 .taken))))
-      (λ w. rw (w .1, w .2) (leading-no _ E _ _ _ ((c .before .before .before .before .loop-test .taken)) (((c .before .before .before .before .before .loop .inv .1)) E R) _ same (w .0 .left)))
-      (c .if2 .came),
+          let same = ((c .before .leads .ensures)) ∙ leads-same _ E _ R _ ((c .before .before .before .before .loop-test .taken)) in
+          ⊎-elim
+          (λ w. rw (w .1, w .2) (leading-yes _ E _ _ _ ((c .before .before .before .before .loop-test .taken)) (((c .before .before .before .before .before .loop .inv .1)) E R) _ same (w .0 .taken) ((c .before .before .before .before .before .before .before .if1 .taken))))
+          (λ w. rw (w .1, w .2) (leading-no _ E _ _ _ ((c .before .before .before .before .loop-test .taken)) (((c .before .before .before .before .before .loop .inv .1)) E R) _ same (w .0 .left)))
+          (c .if2 .came),
     ))
     (λ c. λ h. leading-all _ _ _ _ _ ((c .loop-test .left)) (((c .before .loop .inv .1)) _ ((c .before .before .closed .ensures))))
     (λ c. λ h. absurd (omega (arith, c .if1 .left))))

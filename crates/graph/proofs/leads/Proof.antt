@@ -32,9 +32,9 @@ leads-spec =
     (λ c. (
       search needs,
       ⊎-elim
-      (λ w. apart-to _ _ _ ((c .before .before .before .before .before .before .row .ensures)) _ ((c .before .before .before .loop .inv .1)) _ ((c .before .contains2 .ensures)) _ (w .1 .ensures) _ (w .2 .ensures) (w .3 .left))
-      (λ w. apart-from _ _ _ ((c .before .before .before .before .before .before .row .ensures)) _ ((c .before .before .before .loop .inv .1)) _ ((c .before .contains2 .ensures)) (w .left))
-      (c .if2 .came),
+          (λ w. apart-to _ _ _ ((c .before .before .before .before .before .before .row .ensures)) _ ((c .before .before .before .loop .inv .1)) _ ((c .before .contains2 .ensures)) _ (w .1 .ensures) _ (w .2 .ensures) (w .3 .left))
+          (λ w. apart-from _ _ _ ((c .before .before .before .before .before .before .row .ensures)) _ ((c .before .before .before .loop .inv .1)) _ ((c .before .contains2 .ensures)) (w .left))
+          (c .if2 .came),
     ))
     (λ c. leads-on _ _ _ ((c .before .before .before .before .row .ensures)) _ ((c .before .before .before .contains .ensures)) ((c .before .before .if1 .taken)) _ ((c .loop-test .left)) ((c .before .loop .inv .1)))
     (λ c. leads-off _ _ _ ((c .before .before .row .ensures)) _ ((c .before .contains .ensures)) (c .if1 .left)))

@@ -33,8 +33,8 @@ lowest-spec =
     (λ c. (
       search needs,
       ⊎-elim
-      (λ w. ready-waits _ _ _ _ ((c .before .before .loop-test .taken)) ((c .before .before .before .loop .inv .1)) _ ((c .before .contains .ensures)) (not-true _ (w .0 .taken)) _ (w .1 .ensures) _ (w .2 .ensures) (w .3 .left))
-      (λ w. ready-placed _ _ _ _ ((c .before .before .loop-test .taken)) ((c .before .before .before .loop .inv .1)) _ ((c .before .contains .ensures)) (not-false _ (w .left)))
-      (c .if1 .came),
+          (λ w. ready-waits _ _ _ _ ((c .before .before .loop-test .taken)) ((c .before .before .before .loop .inv .1)) _ ((c .before .contains .ensures)) (not-true _ (w .0 .taken)) _ (w .1 .ensures) _ (w .2 .ensures) (w .3 .left))
+          (λ w. ready-placed _ _ _ _ ((c .before .before .loop-test .taken)) ((c .before .before .before .loop .inv .1)) _ ((c .before .contains .ensures)) (not-false _ (w .left)))
+          (c .if1 .came),
     ))
     (λ c. search-end _ _ _ (c .loop-test .left) ((c .before .loop .inv .1))))

@@ -30,8 +30,8 @@ next-gate-spec =
     (λ c. (
       search needs,
       ⊎-elim
-      (λ w b. next-apart _ _ _ _ _ _ ((c .before .before .loop-test .taken)) (((c .before .before .before .loop .inv .1)) b) _ (w .1 .ensures) ((c .before .before .before .before .pre)) (w .2 .left) b)
-      (λ w b. next-far _ _ _ _ _ _ ((c .before .before .loop-test .taken)) (((c .before .before .before .loop .inv .1)) b) (w .left))
-      (c .if1 .came),
+          (λ w b. next-apart _ _ _ _ _ _ ((c .before .before .loop-test .taken)) (((c .before .before .before .loop .inv .1)) b) _ (w .1 .ensures) ((c .before .before .before .before .pre)) (w .2 .left) b)
+          (λ w b. next-far _ _ _ _ _ _ ((c .before .before .loop-test .taken)) (((c .before .before .before .loop .inv .1)) b) (w .left))
+          (c .if1 .came),
     ))
     (λ c. λ b. next-none _ _ _ _ _ _ (c .loop-test .left) (((c .before .loop .inv .1)) b)))

@@ -1,4 +1,3 @@
-use borrow.Author.Needs.{needs}
 use Rattle.graph.proofs.Rows.{no-calls}
 use mathlib.Core.Path.{refl}
 use Rattle.graph.proofs.no_calls.Statement.{statement}

@@ -1,5 +1,5 @@
 use borrow.Author.Needs.{needs}
-use Prim.Native.Nat.{ℕ, _≤_, _<_, _-_}
+use Prim.Native.Nat.{_≤_, _-_}
 use native.Mathlib.Omega.{arith}
 use Rattle.graph.specs.Rows.{linked}
 use Rattle.graph.proofs.Placing.{Ordering, ordering-none, ordering-more, ordering-stop, ordering-all}

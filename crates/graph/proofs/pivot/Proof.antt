@@ -1,7 +1,5 @@
 use borrow.Author.Needs.{needs}
-use Prim.Native.Nat.{ℕ, _≤_, _<_, _-_}
-use mathlib.Core.Path.{subst}
-use native.Mathlib.Omega.{arith}
+use Prim.Native.Nat.{_≤_, _-_}
 use mathlib.Core.Logic.{⊎-elim}
 use Rattle.graph.specs.Rows.{Passed}
 use Rattle.graph.proofs.Groups.{passed-none, pass-on, pass-over, passed-all}
@@ -32,8 +30,8 @@ pivot-spec =
     (λ c. (
       search needs,
       ⊎-elim
-      (λ w. rw (w .4) (pass-on _ _ _ _ ((c .before .before .before .before .before .loop .inv .1)) _ ((c .before .before .row2 .ensures)) _ ((c .before .contains .ensures)) (w .0 .taken) _ ((c .before .before .before .before .before .before .row .ensures)) _ (w .2 .ensures) _ (w .3 .ensures)))
-      (λ w. rw (w .1) (pass-over _ _ _ _ ((c .before .before .before .before .before .loop .inv .1)) _ ((c .before .before .row2 .ensures)) _ ((c .before .contains .ensures)) (w .0 .left)))
-      (c .if1 .came),
+          (λ w. rw (w .4) (pass-on _ _ _ _ ((c .before .before .before .before .before .loop .inv .1)) _ ((c .before .before .row2 .ensures)) _ ((c .before .contains .ensures)) (w .0 .taken) _ ((c .before .before .before .before .before .before .row .ensures)) _ (w .2 .ensures) _ (w .3 .ensures)))
+          (λ w. rw (w .1) (pass-over _ _ _ _ ((c .before .before .before .before .before .loop .inv .1)) _ ((c .before .before .row2 .ensures)) _ ((c .before .contains .ensures)) (w .0 .left)))
+          (c .if1 .came),
     ))
     (λ c. passed-all _ _ _ _ _ ((c .before .loop .inv .0)) ((c .loop-test .left)) ((c .before .loop .inv .1))))

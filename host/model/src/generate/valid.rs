@@ -70,7 +70,7 @@ impl Maker<'_> {
     }
 
     /// A gate that calls only gates made before it.
-    fn valid_gate(&mut self, name: u16, count: usize, gates: &[Head]) -> Gate {
+    pub fn valid_gate(&mut self, name: u16, count: usize, gates: &[Head]) -> Gate {
         let (params, args) = (self.rng.below(3), self.rng.below(4));
         let (params, args) = (self.different(count, params), self.different(count, args));
         let (span, symbol) = (self.span(), self.symbol(name));

@@ -1,4 +1,3 @@
-use borrow.Author.Needs.{needs}
 use Rattle.graph.proofs.Holding.{holds-union}
 use mathlib.Core.Path.{refl}
 use Rattle.graph.proofs.sets.union.Statement.{statement}

@@ -1,0 +1,15 @@
+use borrow.Author.Needs.{needs}
+use Rattle.rules.specs.Run.{entryField}
+use Rattle.entries.proofs.Laws.{entry-as}
+use Rattle.entries.proofs.if_end.Statement.{statement}
+use Rattle.entries.proofs.if_end.Tie as tie
+
+pub if-end-spec : {M : Type 1} → statement M
+unfolding entryField
+if-end-spec =
+    tie.close
+    (tie.spec
+    (λ c κs. search needs)
+    (λ c κs. search needs)
+    (λ c. search needs)
+    (λ c. entry-as _ (c .before .before .before .put-head .ensures) (c .one-more .ensures)))

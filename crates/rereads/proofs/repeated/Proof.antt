@@ -1,0 +1,26 @@
+use Prim.Native.Nat.{_-_}
+use mathlib.Core.Path.{_≡_, refl, _∙_}
+use borrow.Author.Needs.{needs}
+use lib.ListN.{length}
+use Rattle.rereads.proofs.repeated.Statement.{statement}
+use Rattle.rereads.proofs.repeated.Tie as tie
+
+abbrev Inv-loop : tie.InvT-loop
+Inv-loop out₀ from to times m₀ k₀ out m k = length out ≡ length out₀
+
+abbrev μ-loop : tie.MeasureT-loop
+μ-loop out₀ from to times m₀ k₀ out m k = times - k
+
+pub repeated-spec : {M : Type 1} → statement M
+repeated-spec =
+    tie.close
+    (tie.spec
+    Inv-loop
+    μ-loop
+    (λ c. refl)
+    (λ c κs. search needs)
+    (λ c. search needs)
+    (λ c. search needs)
+    (λ c. (c .before .before .again .kept .0) ∙ (c .before .before .before .before .before .loop .inv))
+    (λ c. search needs)
+    (λ c. search needs))
