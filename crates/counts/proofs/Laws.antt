@@ -1,6 +1,6 @@
 -- What each way out gives.
 use mathlib.Core.Path.{_≡_, refl, sym, ap, _∙_}
-use mathlib.Core.List.{List, [], _∷_, _++_, map}
+use mathlib.Core.List.{List, [], _∷_, map}
 use mathlib.Core.Bool.{Bool, true, false, not}
 use Prim.Native.Nat.{ℕ, _+_, _*_, _<_, _≤_, min}
 use native.Mathlib.Omega.{arith}
@@ -17,11 +17,10 @@ use Rattle.rules.specs.declared.Found.the-variants.{Row, Nothing}
 use Rattle.rules.specs.declared.FoundGate.{FoundGate}
 use Rattle.rules.specs.declared.FoundGate.the-variants.{Known, Unknown}
 use Rattle.rules.specs.Basics.{pick}
-use Rattle.rules.specs.Items.{le4}
 use Rattle.rules.specs.Reading.{isStmt, load-at}
 use Rattle.rules.specs.Grouping.{stmts}
-use Rattle.rules.specs.Syntax.{Stmt, barrier, call}
-use Rattle.rules.specs.Checking.{Asked, quantum, Sized, size, bad, assertReg, register}
+use Rattle.rules.specs.Syntax.{Stmt, call}
+use Rattle.rules.specs.Checking.{quantum, Sized, size, bad, assertReg, register}
 use Rattle.rules.specs.Run.{sizeOnly, common, bitsOf}
 use Rattle.theorems.specs.Count.{sum, callCount, at}
 use Rattle.theorems.specs.Counted.{min-mul}

@@ -2,7 +2,7 @@
 use mathlib.Core.Path.{_≡_, refl, sym, ap, _∙_, subst}
 use mathlib.Core.List.{List, [], _∷_, _++_, append-assoc, append-nil}
 use mathlib.Core.Bool.{Bool, true, false}
-use Prim.Native.Nat.{ℕ, suc, _+_, _<_, _≤_}
+use Prim.Native.Nat.{ℕ, _+_, _<_, _≤_}
 use native.Mathlib.Omega.{arith}
 use native.Mathlib.Decide.{ℕ-discrete, decLt}
 use borrow.Author.Tests.{eq-eqb, ne-eqb, le-leb, leb-true}
@@ -12,13 +12,12 @@ use lib.Seq.{getD-set-same, getD-set-other, getD-append-seam}
 use Rattle.rules.specs.declared.Reg.{Reg}
 use Rattle.rules.specs.declared.Found.{Found}
 use Rattle.rules.specs.Basics.{pick}
-use Rattle.rules.specs.Items.{le4}
 use Rattle.rules.specs.Reading.{isStmt, load-at}
-use Rattle.rules.specs.Syntax.{Stmt, Gate, Decl, Field, nameF, includeF, regF, gateF, endF, stmtF, ifF}
+use Rattle.rules.specs.Syntax.{Gate, Decl, Field, nameF, includeF, regF, gateF, endF, stmtF, ifF}
 use Rattle.rules.specs.Grouping.{stmt, stmts, decls}
-use Rattle.rules.specs.Checking.{noGate, gateAt, registers, register}
+use Rattle.rules.specs.Checking.{noGate, gateAt, registers}
 use Rattle.rules.specs.Run.{bitsOf, tops}
-use Rattle.views.specs.View.{operandIn, stmtIn, isPlain, nextIn, rest, rest-end}
+use Rattle.views.specs.View.{stmtIn, isPlain, nextIn, rest, rest-end}
 use Rattle.views.specs.Steps.{after, then, decls-after, stmts-after, gateAtPlace, plain-stmt, if-stmt, top-here, stmt-here, body-end, body-skip, inside-here, gate-here, reg-here, other-here, gates-skip, regs-skip}
 use Rattle.counts.specs.declared.Ends.{Ends}
 use Rattle.counts.specs.Sums.{stmtSum, stmtsSum, fieldSum}

@@ -1,11 +1,10 @@
 -- Sizes and counts by tables: what the code works out, for any words in the tables and any bytes.
-use mathlib.Core.Path.{_≡_}
-use mathlib.Core.Bool.{Bool, true, false, not}
+use mathlib.Core.Bool.{false}
 use mathlib.Core.Option.{Option, none, some}
 use mathlib.Core.List.{List, [], _∷_, map}
 use Prim.Native.Nat.{ℕ, _+_, _*_, min}
 use lib.Dec.{eqb}
-use lib.ListN.{length, getD, set}
+use lib.ListN.{getD, set}
 use Rattle.rules.specs.Basics.{pick}
 use Rattle.rules.specs.Reading.{isStmt, load-at}
 use Rattle.rules.specs.Syntax.{Stmt, u, cx, measure, reset, barrier, call, if, missing}

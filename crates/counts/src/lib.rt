@@ -1,9 +1,9 @@
 // How many bits a program declares and where they begin, where its gates stand, and how many entries its run has: worked out without running it.
 ghost use mathlib.Core.Path.{_≡_};
-ghost use mathlib.Core.List.{[], _∷_, _++_, map};
-ghost use mathlib.Core.Bool.{Bool, true, false};
-ghost use Prim.Native.Nat.{ℕ, _+_, _*_, _<_, _≤_, min};
-ghost use lib.ListN.{length, getD, set};
+ghost use mathlib.Core.List.{[], _∷_, map};
+ghost use mathlib.Core.Bool.{true, false};
+ghost use Prim.Native.Nat.{_+_, _*_, _<_, _≤_, min};
+ghost use lib.ListN.{getD, set};
 ghost use lib.Dec.{eqb};
 ghost use Rattle.rules.specs.Basics.{pick};
 ghost use Rattle.rules.specs.Grouping.{stmts, decls};

@@ -1,7 +1,6 @@
 // The entries of a run, each written to a lent buffer as far as it fits and counted whole.
-ghost use mathlib.Core.Path.{_≡_};
 ghost use mathlib.Core.List.{[], _∷_, _++_};
-ghost use lib.ListN.{length, take, drop};
+ghost use lib.ListN.{length};
 ghost use Rattle.rules.specs.Errors.{bytes4, tagged};
 ghost use Rattle.rules.specs.Run.{uE, cxE, measureE, resetE, barrierE, barrierEndE, opaqueE, ifE, ifEndE, bitsBytes, entryField};
 ghost use Rattle.output.specs.Bytes.{Wrote};

@@ -2,15 +2,13 @@
 use mathlib.Core.Path.{_≡_, refl, sym, ap, _∙_, subst}
 use mathlib.Core.List.{List, [], _∷_, _++_, map, append-nil}
 use mathlib.Core.Bool.{Bool, true, false, not}
-use Prim.Native.Nat.{ℕ, zero, suc, _+_, _-_, _<_, _≤_}
+use Prim.Native.Nat.{ℕ, suc, _+_, _-_, _<_, _≤_}
 use native.Mathlib.Omega.{arith}
-use native.Mathlib.Numerals.{sub-one}
 use native.Mathlib.Decide.{ℕ-discrete, decLt}
-use borrow.Author.Tests.{eq-eqb, ne-eqb, le-leb, leb-true}
+use borrow.Author.Tests.{ne-eqb, le-leb, leb-true}
 use mathlib.Core.Logic.{_⊎_, inl, inr, ⊎-elim}
 use lib.Dec.{T, eqb, ltb, leb, lit≤}
 use lib.ListN.{length, getD, take, replicate}
-use Rattle.rules.specs.declared.FoundGate.{FoundGate}
 use Rattle.rules.specs.declared.Found.the-variants.{Nothing}
 use Rattle.rules.specs.Basics.{pick}
 use Rattle.rules.specs.Reading.{isStmt, load-at}
@@ -21,7 +19,7 @@ use Rattle.rules.specs.Run.{Entry, opaqueE, entryField, common}
 use Rattle.views.specs.View.{nameIn, operandIn, rowIn, uIn, barrierIn, callIn, stmtIn, isPlain, nextIn, rest, rest-end}
 use Rattle.views.specs.Steps.{after, stmts-after, plain-stmt, if-stmt, stmt-here, body-end, body-skip}
 use Rattle.output.specs.declared.Sink.{Sink}
-use Rattle.output.specs.Sinks.{Put, put-none, put-same, Owes, owes-less, owes-none}
+use Rattle.output.specs.Sinks.{Put, put-none}
 use Rattle.tables.specs.Tables.{gateIn, regIn}
 use Rattle.counts.specs.Sums.{sizeIn, sizesIn}
 use Rattle.run.specs.declared.Step.{Step}

@@ -1,16 +1,14 @@
 -- What each way out gives.
-use mathlib.Core.Path.{_≡_, refl, sym, ap, _∙_}
+use mathlib.Core.Path.{_≡_, refl}
 use mathlib.Core.List.{List, [], _∷_, _++_, map}
 use mathlib.Core.Bool.{Bool, true, false}
-use Prim.Native.Nat.{ℕ, _<_, _≤_}
+use Prim.Native.Nat.{ℕ}
 use borrow.Author.Tests.{eq-eqb, ne-eqb}
-use lib.Dec.{eqb}
 use lib.ListN.{getD}
 use Rattle.rules.specs.declared.Operand.{Operand}
 use Rattle.rules.specs.declared.Header.{Header}
 use Rattle.rules.specs.declared.FoundGate.{FoundGate}
 use Rattle.rules.specs.declared.FoundGate.the-variants.{Known, Unknown}
-use Rattle.rules.specs.Basics.{pick}
 use Rattle.rules.specs.Checking.{quantum}
 use Rattle.rules.specs.Run.{Entry, uE, cxE, measureE, resetE, barrierE, barrierEndE, entryField}
 use Rattle.views.specs.View.{operandIn, rowIn}
@@ -22,7 +20,6 @@ use Rattle.asserts.specs.Sizes.{asked}
 use Rattle.counts.specs.Sums.{sizeIn}
 use Rattle.run.specs.declared.Kind.{Kind}
 use Rattle.run.specs.declared.Kind.the-variants.{U, Reset, Barrier}
-use Rattle.run.specs.declared.Step.{Step}
 use Rattle.run.specs.declared.Step.the-variants.{Walk, Skip}
 use Rattle.run.specs.Lines.{startIn, laneOf, oneOf, twoOf, oneTurns, twoTurns, barrierRow, called, walked, plainLine}
 

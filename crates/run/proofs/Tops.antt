@@ -1,17 +1,17 @@
 -- What a statement of the top level comes to, and a turn over the top level.
 use mathlib.Core.Path.{_≡_, refl, sym, ap, _∙_, subst}
-use mathlib.Core.List.{List, [], _∷_, _++_, map}
+use mathlib.Core.List.{List, [], _∷_, map}
 use mathlib.Core.Bool.{Bool, true, false}
 use Prim.Native.Nat.{ℕ, _-_, _<_, _≤_}
 use native.Mathlib.Omega.{arith}
-use borrow.Author.Tests.{ne-eqb, le-leb}
-use lib.Dec.{T, eqb, leb}
+use borrow.Author.Tests.{le-leb}
+use lib.Dec.{T, eqb}
 use lib.ListN.{length, getD, take}
 use Rattle.rules.specs.declared.Operand.{Operand}
 use Rattle.rules.specs.Basics.{pick}
 use Rattle.rules.specs.Items.{le4, le8}
 use Rattle.rules.specs.Reading.{isStmt, load-at}
-use Rattle.rules.specs.Syntax.{Stmt, u, cx, measure, reset, barrier, call, if, missing, Decl}
+use Rattle.rules.specs.Syntax.{cx, measure, reset, Decl}
 use Rattle.rules.specs.Grouping.{stmt, decls}
 use Rattle.rules.specs.Checking.{quantum}
 use Rattle.rules.specs.Run.{Entry, ifE, ifEndE, entryField, common, tops}

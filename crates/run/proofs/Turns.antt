@@ -1,35 +1,27 @@
 -- What a turn of each loop gives.
-use mathlib.Core.Path.{_≡_, refl, sym, ap, ap₂, _∙_, subst}
+use mathlib.Core.Path.{_≡_, refl, sym, ap, ap₂, _∙_}
 use mathlib.Core.List.{List, [], _∷_, _++_, map, append-assoc, append-nil}
-use mathlib.Core.Bool.{Bool, true, false}
+use mathlib.Core.Bool.{Bool, false}
 use Prim.Native.Nat.{ℕ, zero, suc, _+_, _-_, _*_, _<_, _≤_}
 use native.Mathlib.Omega.{arith}
 use native.Mathlib.Numerals.{add-one}
 use native.Mathlib.Nat.{mul-suc}
-use native.Mathlib.Decide.{ℕ-discrete}
-use borrow.Author.Tests.{eq-eqb, ne-eqb, le-leb, leb-true}
-use lib.Dec.{T, eqb, leb}
-use lib.ListN.{length, getD, set, take, drop, length-set}
-use lib.Seq.{take-suc-set, drop-cons, getD-drop, take-length}
+use lib.Dec.{eqb}
+use lib.ListN.{length, getD, set, take, drop}
+use lib.Seq.{take-suc-set, getD-drop}
 use Rattle.rules.specs.declared.Operand.{Operand}
-use Rattle.rules.specs.declared.Reg.{Reg}
 use Rattle.rules.specs.Basics.{pick}
-use Rattle.rules.specs.Items.{le4}
-use Rattle.rules.specs.Reading.{isStmt, load-at}
-use Rattle.rules.specs.Syntax.{Named, Field, nameF, includeF, regF, gateF, endF, stmtF, ifF}
-use Rattle.rules.specs.Grouping.{stmt, stmts}
 use Rattle.rules.specs.Checking.{quantum, argument}
-use Rattle.rules.specs.Run.{Entry, barrierEndE, entryField}
-use Rattle.views.specs.View.{on, nameIn, operandIn, namedIn, rowIn, rowPast, argsIn, uIn, barrierIn, callIn, stmtIn, isPlain, nextIn, rest, rest-end}
+use Rattle.rules.specs.Run.{Entry, entryField}
+use Rattle.views.specs.View.{on, nameIn, operandIn, namedIn, rowIn, rowPast, argsIn}
 use Rattle.views.specs.Rows.{row-more, row-none, operand-ends, named-ends, name-on}
-use Rattle.views.specs.Steps.{after, stmts-after, plain-stmt, if-stmt, stmt-here, body-end, body-skip}
 use Rattle.output.specs.declared.Sink.{Sink}
-use Rattle.output.specs.Sinks.{Put, put-same, Owes}
+use Rattle.output.specs.Sinks.{put-same, Owes}
 use Rattle.asserts.specs.Sizes.{asked}
 use Rattle.counts.specs.Sums.{sizeIn}
 use Rattle.run.specs.declared.Kind.{Kind}
 use Rattle.run.specs.declared.Kind.the-variants.{Barrier}
-use Rattle.run.specs.Lines.{startIn, laneOf, lanesIn, turnList, oneOf, twoOf, oneTurns, twoTurns, barrierRow, line, lines, plainLine, frameFill, frameOf}
+use Rattle.run.specs.Lines.{startIn, laneOf, lanesIn, turnList, oneOf, twoOf, oneTurns, twoTurns, barrierRow, frameFill, frameOf}
 
 -- ---- turns
 

@@ -10,13 +10,12 @@ use Rattle.rules.specs.declared.Reg.{Reg}
 use Rattle.rules.specs.declared.FoundGate.{FoundGate}
 use Rattle.rules.specs.declared.FoundGate.the-variants.{Known, Unknown}
 use Rattle.rules.specs.Basics.{pick}
-use Rattle.rules.specs.Items.{le4, le8}
 use Rattle.rules.specs.Reading.{isStmt, load-at}
-use Rattle.rules.specs.Syntax.{Stmt, u, cx, measure, reset, barrier, call, if, missing, Decl}
-use Rattle.rules.specs.Grouping.{stmt, stmts}
+use Rattle.rules.specs.Syntax.{Stmt, u, cx, measure, reset, barrier, call, if, missing}
+use Rattle.rules.specs.Grouping.{stmts}
 use Rattle.rules.specs.Checking.{Asked, quantum, classic, argument}
 use Rattle.rules.specs.Run.{Entry, uE, cxE, measureE, resetE, barrierE, barrierEndE, opaqueE, ifE, ifEndE, entryField, common}
-use Rattle.views.specs.View.{nameIn, operandIn, rowIn, argsIn, stmtIn, nextIn, rest}
+use Rattle.views.specs.View.{nameIn, operandIn, rowIn, argsIn, nextIn, rest}
 use Rattle.views.specs.Steps.{after}
 use Rattle.output.specs.declared.Sink.{Sink}
 use Rattle.output.specs.Bytes.{plus}

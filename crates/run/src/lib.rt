@@ -1,11 +1,9 @@
 // The run of a program that check finds no errors in, written as entries.
 ghost use mathlib.Core.Path.{_≡_};
 ghost use mathlib.Core.List.{List, [], _∷_, _++_, map};
-ghost use mathlib.Core.Bool.{Bool, true, false};
-ghost use Prim.Native.Nat.{ℕ, _+_, _-_, _<_, _≤_, zero};
+ghost use mathlib.Core.Bool.{true, false};
+ghost use Prim.Native.Nat.{ℕ, _+_, _-_, _<_};
 ghost use lib.ListN.{length, getD, take, replicate};
-ghost use lib.Dec.{eqb};
-ghost use Rattle.rules.specs.Basics.{pick};
 ghost use Rattle.rules.specs.Grouping.{stmt, decls};
 ghost use Rattle.rules.specs.Checking.{quantum};
 ghost use Rattle.rules.specs.Run.{Entry, entryField, barrierEndE, tops};
@@ -112,10 +110,10 @@ fn put_two(out: &mut [u8], s: Sink, measures: bool, x: u64, y: u64) -> Sink
 fn each_two(out: &mut [u8], s: Sink, measures: bool, x: u64, m: u64, y: u64, n: u64) -> Sink
     ensures { λ r. ⌜ Put entryField (now (out .entry)) s (twoTurns measures x m y n) (now (out .exit)) r ⌝ }
 {
-    let turns = common_of(m, n);
+    let both = common_of(m, n);
     let mut r = s;
     let mut j: u64 = 0;
-    while j < turns {
+    while j < both {
         r = put_two(out, r, measures, lane(x, m, j), lane(y, n, j));
         j += 1;
     }
@@ -220,12 +218,12 @@ fn fill_frame(head: &[u8], qs: &[u64], bits: &mut [u64])
     ensures { λ _. ⌜ now (bits .exit) ≡ frameOf (now (head .entry)) (now (qs .entry)) (now (bits .entry)) ⌝ }
 {
     let mut at = 13 + 6 * byte_at(head, 11) as usize;
-    let mut left = byte_at(head, 12);
+    let mut more = byte_at(head, 12);
     let mut i: u64 = 0;
-    while 0 < left {
+    while 0 < more {
         store(bits, name(head, along(head, at, 4)), word_of(qs, i));
         at = along(head, at, 6);
-        left -= 1;
+        more -= 1;
         i += 1;
     }
 }

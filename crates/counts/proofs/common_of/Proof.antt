@@ -1,4 +1,3 @@
-use borrow.Author.Needs.{needs}
 use Rattle.counts.proofs.Laws.{common-goes, common-stays}
 use Rattle.counts.proofs.common_of.Statement.{statement}
 use Rattle.counts.proofs.common_of.Tie as tie

@@ -1,12 +1,11 @@
 use borrow.Author.Needs.{needs}
-use mathlib.Core.Path.{_≡_, refl, sym, _∙_}
+use mathlib.Core.Path.{_≡_, refl}
 use Prim.Native.Nat.{_+_, _-_, _≤_, min}
 use native.Mathlib.Omega.{arith}
 use lib.ListN.{length}
-use mathlib.Core.Bool.{false}
 use mathlib.Core.List.{[]}
 use lib.ListN.{getD}
-use Rattle.views.specs.View.{rest, nextIn}
+use Rattle.views.specs.View.{rest}
 use Rattle.counts.proofs.Turns.{capped-turn, capped-end}
 use Rattle.counts.proofs.Walks.{bodySum, body-turn, body-over, body-done}
 use Rattle.counts.proofs.count_body.Statement.{statement}

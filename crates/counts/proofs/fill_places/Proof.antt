@@ -1,9 +1,8 @@
 use borrow.Author.Needs.{needs}
-use mathlib.Core.Path.{_≡_, refl, sym, _∙_}
-use Prim.Native.Nat.{_+_, _-_, _≤_, min}
+use mathlib.Core.Path.{_≡_, refl, _∙_}
+use Prim.Native.Nat.{_-_, _≤_}
 use native.Mathlib.Omega.{arith}
 use lib.ListN.{length}
-use mathlib.Core.Bool.{false}
 use Rattle.counts.proofs.Laws.{place-count}
 use Rattle.counts.proofs.Walks.{Entered, entered-none, entered-turn, entered-all}
 use Rattle.counts.proofs.fill_places.Statement.{statement}

@@ -1,4 +1,3 @@
-use borrow.Author.Needs.{needs}
 use Rattle.counts.proofs.Laws.{here-laws}
 use Rattle.counts.proofs.gate_here.Statement.{statement}
 use Rattle.counts.proofs.gate_here.Tie as tie

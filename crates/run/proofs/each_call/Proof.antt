@@ -1,14 +1,14 @@
 use borrow.Author.Needs.{needs}
-use mathlib.Core.Path.{_≡_, refl, sym, _∙_}
-use Prim.Native.Nat.{_+_, _-_, _≤_}
-use mathlib.Core.List.{[], _∷_, _++_, map}
+use mathlib.Core.Path.{_≡_, refl, _∙_}
+use Prim.Native.Nat.{_-_}
+use mathlib.Core.List.{map}
 use native.Mathlib.Omega.{arith}
 use mathlib.Core.Path.{ap}
 use lib.ListN.{length, getD}
 use Rattle.rules.specs.Checking.{quantum}
 use Rattle.views.specs.View.{operandIn, rowIn}
 use Rattle.rules.specs.Run.{entryField}
-use Rattle.output.specs.Sinks.{Owes, owes-less, owes-none, put-then}
+use Rattle.output.specs.Sinks.{Owes, owes-less, owes-none}
 use Rattle.run.specs.Lines.{turnList, spreadIn, lanesIn, gateLines}
 use Rattle.run.proofs.Turns.{owes-from, turns-more, turns-none}
 use Rattle.run.proofs.Tops.{calls-all, lanes-part}

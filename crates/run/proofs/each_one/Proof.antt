@@ -1,10 +1,10 @@
 use borrow.Author.Needs.{needs}
-use mathlib.Core.Path.{_≡_, refl, sym, _∙_}
-use Prim.Native.Nat.{_+_, _-_, _≤_}
-use mathlib.Core.List.{[], _∷_, _++_, map}
+use mathlib.Core.Path.{_≡_, refl, _∙_}
+use Prim.Native.Nat.{_-_}
+use mathlib.Core.List.{[], _∷_}
 use lib.ListN.{length}
 use Rattle.rules.specs.Run.{entryField}
-use Rattle.output.specs.Sinks.{Owes, owes-less, owes-none, put-then}
+use Rattle.output.specs.Sinks.{Owes, owes-less, owes-none}
 use Rattle.run.specs.Lines.{turnList, oneOf, laneOf, oneTurns}
 use Rattle.run.proofs.Turns.{owes-from, ones-all, turns-more, turns-none}
 use mathlib.Core.Path.{ap}

@@ -1,10 +1,10 @@
 use borrow.Author.Needs.{needs}
-use mathlib.Core.Path.{_≡_, refl, sym, _∙_}
-use Prim.Native.Nat.{_+_, _-_, _≤_}
-use mathlib.Core.List.{[], _∷_, _++_, map}
+use mathlib.Core.Path.{_≡_, refl, _∙_}
+use Prim.Native.Nat.{_-_}
+use mathlib.Core.List.{[], _∷_}
 use lib.ListN.{length}
 use Rattle.rules.specs.Run.{entryField}
-use Rattle.output.specs.Sinks.{Owes, owes-less, owes-none, put-then}
+use Rattle.output.specs.Sinks.{Owes, owes-less, owes-none}
 use Rattle.run.specs.Lines.{turnList, twoOf, laneOf, twoTurns}
 use Rattle.run.proofs.Turns.{owes-from, twos-all, turns-more, turns-none}
 use mathlib.Core.Path.{ap₂}
@@ -12,11 +12,11 @@ use Rattle.run.proofs.each_two.Statement.{statement}
 use Rattle.run.proofs.each_two.Tie as tie
 
 abbrev Inv-loop : tie.InvT-loop
-Inv-loop out₀ measures x m y n turns r₀ j₀ out r j =
-    (length out ≡ length out₀) × Owes entryField out₀ r₀ (twoTurns measures x m y n) out r (turnList (turns - j) j (λ j. twoOf measures (laneOf x m j) (laneOf y n j) ∷ []))
+Inv-loop out₀ measures x m y n both r₀ j₀ out r j =
+    (length out ≡ length out₀) × Owes entryField out₀ r₀ (twoTurns measures x m y n) out r (turnList (both - j) j (λ j. twoOf measures (laneOf x m j) (laneOf y n j) ∷ []))
 
 abbrev μ-loop : tie.MeasureT-loop
-μ-loop out₀ measures x m y n turns r₀ j₀ out r j = turns - j
+μ-loop out₀ measures x m y n both r₀ j₀ out r j = both - j
 
 pub each-two-spec : {M : Type 1} → statement M
 each-two-spec =

@@ -1,7 +1,7 @@
 use borrow.Author.Needs.{needs}
-use mathlib.Core.Path.{_≡_, refl, sym, _∙_}
+use mathlib.Core.Path.{_≡_, refl, _∙_}
 use Prim.Native.Nat.{_+_, _-_, _≤_}
-use mathlib.Core.List.{[], _∷_, _++_, map}
+use mathlib.Core.List.{map}
 use native.Mathlib.Omega.{arith}
 use lib.ListN.{length, drop}
 use Rattle.rules.specs.Checking.{argument}
@@ -12,11 +12,11 @@ use Rattle.run.proofs.fill_frame.Statement.{statement}
 use Rattle.run.proofs.fill_frame.Tie as tie
 
 abbrev Inv-loop : tie.InvT-loop
-Inv-loop head qs bits₀ at₀ left₀ i₀ bits at left i =
-    (length bits ≡ length bits₀) × (i + left ≤ 255) × (frameFill (map argument (rowIn namedIn 6 left head at)) (drop i qs) bits ≡ frameOf head qs bits₀)
+Inv-loop head qs bits₀ at₀ more₀ i₀ bits at more i =
+    (length bits ≡ length bits₀) × (i + more ≤ 255) × (frameFill (map argument (rowIn namedIn 6 more head at)) (drop i qs) bits ≡ frameOf head qs bits₀)
 
 abbrev μ-loop : tie.MeasureT-loop
-μ-loop head qs bits₀ at₀ left₀ i₀ bits at left i = left
+μ-loop head qs bits₀ at₀ more₀ i₀ bits at more i = more
 
 pub fill-frame-spec : {M : Type 1} → statement M
 fill-frame-spec =

@@ -1,7 +1,7 @@
 use borrow.Author.Needs.{needs}
-use mathlib.Core.Path.{_≡_, refl, sym, _∙_}
-use Prim.Native.Nat.{_+_, _-_, _≤_}
-use mathlib.Core.List.{[], _∷_, _++_, map}
+use mathlib.Core.Path.{_≡_, refl, _∙_}
+use Prim.Native.Nat.{_-_}
+use mathlib.Core.List.{map}
 use lib.ListN.{length, getD}
 use Rattle.rules.specs.Checking.{quantum}
 use Rattle.views.specs.View.{operandIn, rowIn}

@@ -1,11 +1,11 @@
 use borrow.Author.Needs.{needs}
-use mathlib.Core.Path.{_≡_, refl, sym, _∙_}
-use Prim.Native.Nat.{_+_, _-_, _≤_}
+use mathlib.Core.Path.{_≡_, refl, _∙_}
+use Prim.Native.Nat.{_-_}
 use native.Mathlib.Omega.{arith}
 use mathlib.Core.Bool.{false}
 use lib.ListN.{length}
 use Rattle.rules.specs.Run.{entryField}
-use Rattle.output.specs.Sinks.{Owes, owes-less, owes-none, put-then}
+use Rattle.output.specs.Sinks.{Owes, owes-none}
 use Rattle.run.specs.Lines.{gateLines}
 use Rattle.run.proofs.Turns.{owes-from}
 use Rattle.run.proofs.Tops.{topsFrom, tops-end, moved}

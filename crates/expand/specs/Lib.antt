@@ -1,0 +1,4 @@
+pub mod Tables
+pub mod Counting
+pub mod Running
+pub mod Expanding
