@@ -4,18 +4,15 @@ use mathlib.Core.List.{List, [], _∷_, _++_, map}
 use mathlib.Core.Bool.{Bool, true, false}
 use Prim.Native.Nat.{ℕ, zero, suc, _+_, _≤_, _<_}
 use native.Mathlib.Omega.{arith}
-use native.Mathlib.Nat.{zero-add}
 use borrow.Author.Tests.{lt-ltb, le-ltb, eq-eqb, ne-eqb}
 use lib.ListN.{length, drop, length-map}
-use lib.Seq.{sets, sets-eq}
 use lib.Dec.{ltb, eqb}
 use Rattle.rules.specs.declared.Answer.{Answer}
 use Rattle.rules.specs.declared.Answer.the-variants.{Done, Errors, Refused, Room}
 use Rattle.rules.specs.Basics.{pick}
 use Rattle.rules.specs.Errors.{Error, errorField}
 use Rattle.rules.specs.Syntax.{Program}
-use Rattle.rules.specs.Reading.{scan, Fields, refused, fields}
-use Rattle.rules.specs.Grouping.{Reading, refuses, program, group, grouped, read}
+use Rattle.rules.specs.Grouping.{program, read}
 use Rattle.rules.specs.Calls.{errors}
 use Rattle.rules.specs.Answers.{Result, flat, lay, listed, checkRead, check}
 use Rattle.theorems.specs.Bounds.{errors-bytes, errors-count}
@@ -26,17 +23,9 @@ use Rattle.image.specs.declared.Image.{Image}
 use Rattle.image.specs.declared.Verdict.{Verdict}
 use Rattle.image.specs.declared.Verdict.the-variants as verdict
 use Rattle.image.specs.Whole.{Reads}
-use Rattle.image.specs.Told.{refused-told, read-told}
 use Rattle.checks.specs.declared.Judged.{Judged}
-use Rattle.checks.specs.Told.{start, All, Gives, Answered}
-
-nil-of : {A : Type 0} (l : List A) → length l ≡ 0 → l ≡ []
-nil-of [] e = refl
-nil-of (x ∷ l) e = absurd (omega arith)
-
--- what is laid from the start, where it fits
-laid : (o bs : List ℕ) → length bs ≤ length o → sets o 0 bs ≡ bs ++ drop (length bs) o
-laid o bs h = rw (sets-eq bs o 0 (rw zero-add h), zero-add) refl
+use Rattle.checks.specs.Told.{start, All}
+use Rattle.checks.specs.Served.{Gives, Serves, served-refused, served-read, nil-of, laid}
 
 module _ (img o none none′ : List ℕ) (j : Judged) (w : All img none none′ j) (fits : length o ≤ most) where
   items-are : (p : Program) → read img ≡ program p → j .sink .items ≡ length (errors p)
@@ -48,7 +37,7 @@ module _ (img o none none′ : List ℕ) (j : Judged) (w : All img none none′ 
   fields-are : (p : Program) → length (map errorField (errors p)) ≡ length (errors p)
   fields-are p = length-map (errors p) errorField
 
-  pub room-short : length o < j .sink .bytes → Answered img o o (Room (j .sink .items) (j .sink .bytes))
+  pub room-short : length o < j .sink .bytes → Serves checkRead img o o (Room (j .sink .items) (j .sink .bytes))
   unfolding checkRead lay
   room-short h = record {
     gives = λ p e.
@@ -63,7 +52,7 @@ module _ (img o none none′ : List ℕ) (j : Judged) (w : All img none none′ 
     long : (p : Program) → read img ≡ program p → ltb (length o) (length (flat (map errorField (errors p)))) ≡ false
     long p e = le-ltb _ _ (rw (bytes-are p e) at h)
 
-    pub none-listed : j .sink .items ≡ 0 → Answered img o o (Done (j .sink .items) (j .sink .bytes))
+    pub none-listed : j .sink .items ≡ 0 → Serves checkRead img o o (Done (j .sink .items) (j .sink .bytes))
     unfolding checkRead lay flat
     none-listed z = record {
       gives = λ p e.
@@ -73,7 +62,7 @@ module _ (img o none none′ : List ℕ) (j : Judged) (w : All img none none′ 
           record { answer = rw (q, z, c, le-ltb (length o) 0 g) refl; buffer = rw (q, le-ltb (length o) 0 g) refl };
     }
 
-    pub some-listed : (j .sink .items ≡ 0 → ⊥) → (o′ : List ℕ) (k : Judged) → All img o o′ k → Answered img o o′ (Errors (j .sink .items) (j .sink .bytes))
+    pub some-listed : (j .sink .items ≡ 0 → ⊥) → (o′ : List ℕ) (k : Judged) → All img o o′ k → Serves checkRead img o o′ (Errors (j .sink .items) (j .sink .bytes))
     unfolding checkRead lay
     some-listed z o′ k v = record {
       gives = λ p e.
@@ -88,14 +77,11 @@ module _ (img o none none′ : List ℕ) (j : Judged) (w : All img none none′ 
 -- ---- the whole service
 
 pub check-refused : (img o : List ℕ) (i : Image) → Reads img i → (v : Verdict) → v ≡ i .verdict → (k at : ℕ) → v ≡ verdict.Refused k at → Gives (check img o) o (Refused k at)
-unfolding check checkRead read grouped
-check-refused img o i r v ev k at e = let q = refused-told img i k at r (sym ev ∙ e) in record { answer = rw q refl; buffer = rw q refl }
+unfolding check checkRead
+check-refused img o i r v ev = served-refused checkRead img o i r v ev (λ k at. refl)
 
-pub check-done : (img o o′ : List ℕ) (a : Answer) (i : Image) → Reads img i → (v : Verdict) → v ≡ i .verdict → v ≡ verdict.Read → Answered img o o′ a → Gives (check img o) o′ a
-unfolding check read grouped
-check-done img o o′ a i r v ev e w =
-    let t = read-told img i r (sym ev ∙ e) in
-    let q : read img ≡ program (group (t .all)) = rw (t .scanned) refl in
-    subst (λ (x : Reading). Gives (checkRead x o) o′ a) (sym q) (w .gives (group (t .all)) q)
+pub check-done : (img o : List ℕ) (i : Image) → Reads img i → (v : Verdict) → v ≡ i .verdict → v ≡ verdict.Read → (o′ : List ℕ) (a : Answer) → Serves checkRead img o o′ a → Gives (check img o) o′ a
+unfolding check
+check-done img o i r v ev = served-read checkRead img o i r v ev
 
 pub ruleset check-laws = (check-refused, check-done)

@@ -6,9 +6,7 @@ use lib.ListN.{length}
 use Rattle.rules.specs.Syntax.{Program}
 use Rattle.rules.specs.Grouping.{program, read}
 use Rattle.rules.specs.Checking.{gatesOf, localErrors}
-use Rattle.rules.specs.declared.Answer.{Answer}
 use Rattle.rules.specs.Calls.{errors}
-use Rattle.rules.specs.Answers.{Result, checkRead}
 use Rattle.views.specs.View.{programIn}
 use Rattle.output.specs.declared.Sink.{Sink}
 use Rattle.output.specs.Sinks.{Said}
@@ -31,11 +29,3 @@ pub record All (img b b′ : List ℕ) (r : Judged) : Type 0 where
   pub said : (p : Program) → read img ≡ program p → Said b start (errors p) b′ (r .sink)
   pub holds : (p : Program) → read img ≡ program p → Holds (gatesOf p) (r .gates .rows) (r .gates .defs)
   pub count : (p : Program) → read img ≡ program p → r .gates .count ≡ length (gatesOf p)
-
--- the answer and the buffer after it
-pub record Gives (x : Result) (b′ : List ℕ) (r : Answer) : Type 0 where
-  pub answer : r ≡ x .answer
-  pub buffer : b′ ≡ x .buffer
-
-pub record Answered (img b b′ : List ℕ) (r : Answer) : Type 0 where
-  pub gives : (p : Program) → read img ≡ program p → Gives (checkRead (program p) b) b′ r

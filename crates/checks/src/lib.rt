@@ -1,8 +1,9 @@
 // The check of an image: its errors told in 01's order, counted first and written second.
 ghost use mathlib.Core.Path.{_≡_};
 ghost use Prim.Native.Nat.{ℕ, _+_};
-ghost use Rattle.checks.specs.Told.{Local, All, Gives, Answered};
-ghost use Rattle.rules.specs.Answers.{check as checked};
+ghost use Rattle.checks.specs.Told.{Local, All};
+ghost use Rattle.checks.specs.Served.{Gives, Serves};
+ghost use Rattle.rules.specs.Answers.{checkRead, check as checked};
 use calls::check_recursion;
 use collect::Gates;
 use collect::collect_decls;
@@ -55,7 +56,7 @@ pub fn tell_errors(out: &mut [u8], img: &[u8]) -> Judged
 
 // The answer for an image that is read: its errors are counted first, over an empty buffer, and written where there is room for all of them.
 fn check_read(image: &[u8], out: &mut [u8]) -> Answer
-    ensures { λ r. ⌜ Answered (now (image .entry)) (now (out .entry)) (now (out .exit)) r ⌝ }
+    ensures { λ r. ⌜ Serves checkRead (now (image .entry)) (now (out .entry)) (now (out .exit)) r ⌝ }
 {
     let mut none = [0u8; 0];
     let need = tell_errors(&mut none, image);

@@ -4,18 +4,19 @@ ghost use mathlib.Core.List.{map};
 ghost use Prim.Native.Nat.{ℕ, _%_};
 ghost use lib.ListN.{take};
 ghost use Rattle.output.specs.Bytes.{Wrote};
-ghost use Rattle.rules.specs.Answers.{order as ordered};
-ghost use Rattle.checks.specs.Told.{Gives};
-ghost use Rattle.orders.specs.Listing.{low, Answered};
+ghost use Rattle.rules.specs.Answers.{orderRead, order as ordered};
+ghost use Rattle.checks.specs.Served.{Gives, Serves};
+ghost use Rattle.orders.specs.Listing.{low, Readied};
 use calls::call_order;
 use checks::tell_errors;
+use graph::Gates;
 use image::Verdict;
 use image::read_image;
 use output::put1;
 use rules::Answer;
 
 // The first n of a list.
-fn front<'a>(list: &'a [u64], n: usize) -> &'a [u64]
+pub fn front<'a>(list: &'a [u64], n: usize) -> &'a [u64]
     ensures { λ r. ⌜ now r ≡ take n (now (list .entry)) ⌝ }
 {
     if list.len() < n {
@@ -37,21 +38,40 @@ fn put_gates(out: &mut [u8], list: &[u64]) -> usize
     at
 }
 
-// The answer for an image that is read.
-fn order_read(image: &[u8], out: &mut [u8]) -> Answer
-    ensures { λ r. ⌜ Answered (now (image .entry)) (now (out .entry)) (now (out .exit)) r ⌝ }
+// Of an image that is read: how many errors it has, its gates by name, and its gates in order.
+pub struct Ready {
+    pub errors: usize,
+    pub heads: [u64; 2048],
+    pub order: Gates,
+}
+
+pub fn place_gates(image: &[u8]) -> Ready
+    ensures { λ r. ⌜ Readied (now (image .entry)) r ⌝ }
 {
     let mut none = [0u8; 0];
     let j = tell_errors(&mut none, image);
     let s = j.sink;
-    if 0 < s.items {
-        return Answer::Rejected;
-    }
     let gates = j.gates;
     let heads = gates.rows;
     let found = call_order(image, &heads, gates.count);
-    let list = found.gates;
-    let row = front(&list, found.count);
+    Ready {
+        errors: s.items,
+        heads: heads,
+        order: found,
+    }
+}
+
+// The answer for an image that is read.
+fn order_read(image: &[u8], out: &mut [u8]) -> Answer
+    ensures { λ r. ⌜ Serves orderRead (now (image .entry)) (now (out .entry)) (now (out .exit)) r ⌝ }
+{
+    let ready = place_gates(image);
+    if 0 < ready.errors {
+        return Answer::Rejected;
+    }
+    let placed = ready.order;
+    let list = placed.gates;
+    let row = front(&list, placed.count);
     let n = row.len();
     if out.len() < n {
         return Answer::Room { items: n, bytes: n };

@@ -10,7 +10,7 @@ use Rattle.rules.specs.declared.Answer.{Answer}
 use Rattle.rules.specs.Errors.{bytes8}
 use Rattle.rules.specs.Answers.{Result, number, values, answerBytes}
 use Rattle.output.specs.Bytes.{Wrote, wrote-then}
-use Rattle.checks.specs.Told.{Gives}
+use Rattle.checks.specs.Served.{Gives}
 use Rattle.pesukoymi.specs.Boundary.{Laid, Called}
 
 pub answer-laid : (a : Answer) (s s₁ s₂ s₃ : List ℕ) (x y z n m k : ℕ) → x ≡ number a → y ≡ values a .0 → z ≡ values a .1

@@ -1,8 +1,9 @@
 // The boundary: what a host calls. An answer goes as 24 bytes into a slice of the caller's: 01's table number, then the two values.
 ghost use mathlib.Core.Path.{_≡_};
-ghost use Rattle.rules.specs.Answers.{number, values, answerBytes, check as checked, order as ordered};
+ghost use Rattle.rules.specs.Answers.{number, values, answerBytes, check as checked, order as ordered, expand as expanded};
 ghost use Rattle.pesukoymi.specs.Boundary.{Called, Laid};
 use checks::check;
+use expands::expand;
 use orders::order;
 use output::put8;
 use rules::Answer;
@@ -85,5 +86,17 @@ pub extern "C" fn pesukoymi_order(image: &[u8], out: &mut [u8], answer: &mut [u8
         return;
     }
     let a = order(image, out);
+    put_answer(answer, a);
+}
+
+// Expand, for a host. An answer slice of fewer than 24 bytes: nothing is changed at all.
+#[no_mangle]
+pub extern "C" fn pesukoymi_expand(image: &[u8], out: &mut [u8], answer: &mut [u8])
+    ensures { λ _. ⌜ Called (expanded (now (image .entry)) (now (out .entry))) (now (out .entry)) (now (answer .entry)) (now (out .exit)) (now (answer .exit)) ⌝ }
+{
+    if answer.len() < 24 {
+        return;
+    }
+    let a = expand(image, out);
     put_answer(answer, a);
 }

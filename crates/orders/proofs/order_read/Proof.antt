@@ -8,14 +8,11 @@ pub order-read-spec : {M : Type 1} → statement M
 order-read-spec =
     tie.close
     (tie.spec
+    (λ c κs. search needs)
+    (λ c. rejected _ _ _ (c .before .before .place-gates .ensures) (c .if1 .taken))
     (λ c. search needs)
     (λ c κs. search needs)
-    (λ c. rejected _ _ _ _ _ (c .before .before .before .before .tell-errors .ensures) (c .if1 .taken))
-    (λ c. search needs)
+    (λ c. room-short _ _ _ (c .before .before .before .before .before .before .before .place-gates .ensures) (c .before .before .before .before .before .if1 .left) _ (c .before .front .ensures) (c .if2 .taken))
     (λ c κs. search needs)
     (λ c. search needs)
-    (λ c κs. search needs)
-    (λ c. room-short _ _ _ _ _ (c .before .before .before .before .before .before .before .before .before .before .before .before .tell-errors .ensures) (c .before .before .before .before .before .before .before .before .if1 .left) (c .before .before .before .before .call-order .result) (c .before .before .before .before .call-order .ensures) _ (c .before .front .ensures) (c .if2 .taken))
-    (λ c κs. search needs)
-    (λ c. search needs)
-    (λ c. all-listed _ _ _ _ _ (c .before .before .before .before .before .before .before .before .before .before .before .before .before .before .before .before .tell-errors .ensures) (c .before .before .before .before .before .before .before .before .before .before .before .before .if1 .left) (c .before .before .before .before .before .before .before .before .call-order .result) (c .before .before .before .before .before .before .before .before .call-order .ensures) _ (c .before .before .before .before .before .front .ensures) (c .before .before .before .before .if2 .left) (omega arith) _ _ (c .before .before .put-gates .ensures)))
+    (λ c. all-listed _ _ _ (c .before .before .before .before .before .before .before .before .before .before .before .place-gates .ensures) (c .before .before .before .before .before .before .before .before .before .if1 .left) _ (c .before .before .before .before .before .front .ensures) (c .before .before .before .before .if2 .left) (omega arith) _ _ (c .before .before .put-gates .ensures)))
