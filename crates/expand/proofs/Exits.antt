@@ -1,16 +1,18 @@
 -- What each way out answers.
 use mathlib.Core.Path.{_≡_, refl, sym, ap, _∙_}
 use mathlib.Core.Bool.{Bool, true, false}
-use mathlib.Core.List.{List, _++_, map}
+use mathlib.Core.List.{List, [], _∷_, _++_, map, append-nil}
 use Prim.Native.Nat.{ℕ, _+_, _-_, _<_, _≤_, min}
 use native.Mathlib.Omega.{arith}
 use native.Mathlib.Nat.{zero-add}
 use borrow.Author.Tests.{lt-ltb, le-ltb}
 use lib.Dec.{ltb}
-use lib.ListN.{length, getD, take, drop, replicate, length-take, length-map}
+use lib.ListN.{length, getD, set, take, drop, replicate, length-take, length-map, length-set, length-replicate}
 use lib.Seq.{sets, sets-eq}
 use Rattle.rules.specs.declared.Answer.{Answer}
 use Rattle.rules.specs.declared.Answer.the-variants.{Done, Machine, Entries, Room}
+use Rattle.rules.specs.declared.Reg.{Reg}
+use Rattle.rules.specs.Basics.{pick}
 use Rattle.rules.specs.Grouping.{program}
 use Rattle.rules.specs.Checking.{registers}
 use Rattle.rules.specs.Run.{Entry, entryField, bitsOf, tops}
@@ -22,21 +24,38 @@ use Rattle.output.specs.Sinks.{Put}
 use Rattle.counts.specs.Sums.{stmtsSum, sumFill}
 use Rattle.counts.specs.Starts.{startFill}
 use Rattle.counts.specs.Places.{gateList, Placed}
+use Rattle.run.specs.Lines.{full}
 use Rattle.expand.specs.Expanding.{Answers, declared, writes, Lays, Counts, too-wide, too-many, laid}
 
 laid-over : (o bs : List ℕ) → length bs ≤ length o → sets o 0 bs ≡ bs ++ drop (length bs) o
 laid-over o bs h = rw (sets-eq bs o 0 (rw zero-add h), zero-add) refl
 
+start-length : (q c : ℕ) (rs : List Reg) (t : List ℕ) → length (startFill q c rs t) ≡ length t
+unfolding startFill
+start-length q c [] t = refl
+start-length q c (r ∷ rs) t = go (λ m n v. start-length m n rs v) (r .classical)
+  where
+    go : ((m n : ℕ) (v : List ℕ) → length (startFill m n rs v) ≡ length v) → (b : Bool)
+        → length (pick b (startFill q (min 4097 (c + r .size)) rs (set t (r .name) c)) (startFill (min 4097 (q + r .size)) c rs (set t (r .name) q))) ≡ length t
+    go ih true = ih q (min 4097 (c + r .size)) (set t (r .name) c) ∙ length-set t (r .name) c
+    go ih false = ih (min 4097 (q + r .size)) c (set t (r .name) q) ∙ length-set t (r .name) q
+
+-- a table of 512 words is full
+full-starts : (rs : List Reg) (starts : List ℕ) → starts ≡ startFill 0 0 rs (replicate 512 0) → full starts ≡ startFill 0 0 rs (replicate 512 0)
+full-starts rs starts e =
+    let n : length starts ≡ 512 = ap length e ∙ start-length 0 0 rs (replicate 512 0) ∙ length-replicate {A = ℕ} 512 0 in
+    ap (λ (k : ℕ). starts ++ replicate (512 - k) 0) n ∙ append-nil starts ∙ e
+
 abbrev start : Sink
 start = record { items = 0; bytes = 0 }
 
 module _ (img gates regs places table starts : List ℕ) (es : starts ≡ startFill 0 0 (registers (declared img)) (replicate 512 0)) (depth : ℕ) (out none none′ : List ℕ) (w : Sink)
-    (h : Put entryField none start (writes img gates regs places table starts depth) none′ w) where
+    (h : Put entryField none start (writes img gates regs places table (full starts) depth) none′ w) where
   abbrev all : List Entry
-  all = writes img gates regs places table starts depth
+  all = writes img gates regs places table (full starts) depth
 
   same : (l : List Entry) → l ≡ writes img gates regs places table (startFill 0 0 (registers (declared img)) (replicate 512 0)) depth → l ≡ all
-  same l e = e ∙ ap (λ (t : List ℕ). writes img gates regs places table t depth) (sym es)
+  same l e = e ∙ ap (λ (t : List ℕ). writes img gates regs places table t depth) (sym (full-starts (registers (declared img)) starts es))
 
   pub lay-room : length out < w .bytes → Lays img gates regs places table depth out (Room (w .items) (w .bytes)) out
   unfolding lay

@@ -4,11 +4,13 @@ use mathlib.Core.List.{List, [], _∷_, _++_, map}
 use mathlib.Core.Bool.{Bool, true, false}
 use Prim.Native.Nat.{ℕ}
 use borrow.Author.Tests.{eq-eqb, ne-eqb}
+use lib.Dec.{eqb}
 use lib.ListN.{getD}
 use Rattle.rules.specs.declared.Operand.{Operand}
 use Rattle.rules.specs.declared.Header.{Header}
 use Rattle.rules.specs.declared.FoundGate.{FoundGate}
 use Rattle.rules.specs.declared.FoundGate.the-variants.{Known, Unknown}
+use Rattle.rules.specs.Basics.{pick}
 use Rattle.rules.specs.Checking.{quantum}
 use Rattle.rules.specs.Run.{Entry, uE, cxE, measureE, resetE, barrierE, barrierEndE, entryField}
 use Rattle.views.specs.View.{operandIn, rowIn}
@@ -24,6 +26,15 @@ use Rattle.run.specs.declared.Step.the-variants.{Walk, Skip}
 use Rattle.run.specs.Lines.{startIn, laneOf, oneOf, twoOf, oneTurns, twoTurns, barrierRow, called, walked, plainLine}
 
 -- ---- bits
+
+module _ (n x one other : ℕ) where
+  pub either-one : n ≡ x → one ≡ pick (eqb n x) one other
+  either-one e = rw (eq-eqb n x e) refl
+
+  pub either-other : (n ≡ x → ⊥) → other ≡ pick (eqb n x) one other
+  either-other e = rw (ne-eqb n x e) refl
+
+pub ruleset either-laws = (either-one, either-other)
 
 module _ (bits : List ℕ) (o : Operand) (first : ℕ) (e : first ≡ getD bits (o .name) 0) (r : ℕ) where
   pub start-indexed : o .indexed ≡ true → r ≡ plus first (o .index) → r ≡ startIn bits o

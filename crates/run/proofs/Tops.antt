@@ -13,9 +13,9 @@ use Rattle.rules.specs.Items.{le4, le8}
 use Rattle.rules.specs.Reading.{isStmt, load-at}
 use Rattle.rules.specs.Syntax.{cx, measure, reset, Decl}
 use Rattle.rules.specs.Grouping.{stmt, decls}
-use Rattle.rules.specs.Checking.{quantum}
+use Rattle.rules.specs.Checking.{Asked, quantum}
 use Rattle.rules.specs.Run.{Entry, ifE, ifEndE, entryField, common, tops}
-use Rattle.views.specs.View.{nameIn, operandIn, rowIn, uIn, barrierIn, callIn, stmtIn, isPlain, nextIn, rest, rest-end}
+use Rattle.views.specs.View.{nameIn, operandIn, rowIn, argsIn, uIn, barrierIn, callIn, stmtIn, isPlain, nextIn, rest, rest-end}
 use Rattle.views.specs.Steps.{after, then, plain-stmt, none-stmt, if-stmt, top-here, inside-here, other-here}
 use Rattle.output.specs.declared.Sink.{Sink}
 use Rattle.output.specs.Sinks.{Put, put-none, put-then, Owes, owes-less}
@@ -26,7 +26,7 @@ use Rattle.run.specs.declared.Step.{Step}
 use Rattle.run.specs.declared.Step.the-variants.{Walk, Skip}
 use Rattle.run.specs.declared.Ran.{Ran}
 use Rattle.run.specs.declared.Turn.{Turn}
-use Rattle.run.specs.Lines.{startIn, lanesIn, turnList, spreadIn, called, walked, line, topLine, topLines, plainLine, Does, Moves}
+use Rattle.run.specs.Lines.{startIn, lanesIn, turnList, spreadIn, called, walked, line, topLine, topLines, plainLine, frameFill, sees, full, Does, Moves}
 use Rattle.run.proofs.Turns.{turns-all}
 use Rattle.run.proofs.Bodies.{plain-line, stmt-plain, call-skip, call-walk}
 
@@ -37,8 +37,15 @@ module _ (regs bits p : List ℕ) (k : ℕ) (ek : (k ≡ getD p 11 0) × (k < 25
   unfolding spreadIn
   calls-all = rw (← ek .0, ← ec) (turns-all c _)
 
-pub lanes-part : (k : ℕ) (row qs : List ℕ) → take k row ≡ qs → take (k - 0) row ≡ qs
-lanes-part k row qs e = let z : k - 0 ≡ k = omega arith in ap (λ (n : ℕ). take n row) z ∙ e
+-- without a header the table's bits are seen
+pub none-seen : (bits : List ℕ) → sees bits [] [] ≡ full bits
+unfolding argsIn frameFill rowIn
+none-seen bits = refl
+
+pub lanes-part : (k : ℕ) (row regs bits : List ℕ) (j : ℕ) (qs : List Asked) → take k row ≡ lanesIn regs (sees bits [] []) j qs → take (k - 0) row ≡ lanesIn regs (full bits) j qs
+lanes-part k row regs bits j qs e =
+    let z : k - 0 ≡ k = omega arith in
+    ap (λ (n : ℕ). take n row) z ∙ e ∙ ap (λ (l : List ℕ). lanesIn regs l j qs) (none-seen bits)
 
 module _ (f : ℕ → List ℕ → List Entry) (gates counts regs bits p : List ℕ) (x : ℕ) (ex : (x ≡ nameIn p 8) × (x < 512)) (r : Step) (er : (f : ℕ → List Entry) → called (gateIn gates x) counts f ≡ walked r f)
     (b : List ℕ) (s : Sink) where
@@ -91,12 +98,12 @@ module _ (f : ℕ → List ℕ → List Entry) (gates counts regs bits : List �
       unfolding stmtIn
       does-call e b′ s′ w = does-line (rw e refl) b′ s′ (rw e w)
 
-      pub does-plain : (t ≡ 22 → ⊥) → (t ≡ 21 → ⊥) → (k : Bool) → k ≡ isStmt t → k ≡ true → (b′ : List ℕ) (s′ : Sink) → Put entryField b s (plainLine regs bits t p) b′ s′
-          → Doing b′ (record { next = n; sink = s′ })
-      does-plain m q k ek there b′ s′ w =
+      pub does-plain : (t ≡ 22 → ⊥) → (t ≡ 21 → ⊥) → (k : Bool) → k ≡ isStmt t → k ≡ true → (raw : List ℕ) → sees raw [] [] ≡ bits
+          → (b′ : List ℕ) (s′ : Sink) → Put entryField b s (plainLine regs (sees raw [] []) t p) b′ s′ → Doing b′ (record { next = n; sink = s′ })
+      does-plain m q k ek there raw z b′ s′ w =
           let i = stmt-plain t (sym ek ∙ there) m in
           let o : isPlain t ≡ true = rw (le-leb 16 t (i .0), le-leb t 21 (i .1)) refl in
-          does-line o b′ s′ (rw (plain-line f gates counts regs bits t p i q) w)
+          does-line o b′ s′ (rw (plain-line f gates counts regs bits t p i q) (subst (λ (l : List ℕ). Put entryField b s (plainLine regs l t p) b′ s′) z w))
 
       pub does-none : (k : Bool) → k ≡ isStmt t → k ≡ false → Doing b (record { next = at; sink = s })
       unfolding topLine
@@ -104,12 +111,13 @@ module _ (f : ℕ → List ℕ → List Entry) (gates counts regs bits : List �
           let e = none-stmt img at t n p h (et .0) ep en (sym ek ∙ none) in
           record { put = rw (e .0) (put-none entryField b s); left = sym (e .1); inside = omega arith; on = λ l. omega arith; past = λ l q. absurd (subst T (sym q ∙ ap isStmt (sym (et .0)) ∙ sym ek ∙ none) tt) }
 
-      pub does-if : t ≡ 22 → (o : Operand) → o ≡ operandIn p 4 → (w x v : ℕ) → w ≡ sizeIn regs (asked true o) → x ≡ startIn bits o → v ≡ le8 p 23
+      pub does-if : t ≡ 22 → (o : Operand) → o ≡ operandIn p 4 → (w x v : ℕ) → w ≡ sizeIn regs (asked true o) → (raw : List ℕ) → sees raw [] [] ≡ bits → x ≡ startIn (sees raw [] []) o → v ≡ le8 p 23
           → (b₁ : List ℕ) (s₁ : Sink) → Put entryField b s (ifE x w v ∷ []) b₁ s₁
           → (b₂ : List ℕ) (r : Ran) → Does (topLine f gates counts regs bits (stmt (rest img n))) img n b₁ s₁ b₂ r
           → (b₃ : List ℕ) (s₃ : Sink) → Put entryField b₂ (r .sink) (ifEndE ∷ []) b₃ s₃ → Doing b₃ (record { next = r .next; sink = s₃ })
       unfolding topLine
-      does-if e o eo w x v ew ex ev b₁ s₁ a b₂ r d b₃ s₃ c =
+      does-if e o eo w x v ew raw z ex₀ ev b₁ s₁ a b₂ r d b₃ s₃ c =
+          let ex : x ≡ startIn bits o = ex₀ ∙ ap (λ (l : List ℕ). startIn l o) z in
           let q = if-stmt img at t n p h (et .0) ep en e in
           record {
             put = rw (q .0, ← eo, ← ew, ← ex, ← ev) (put-then entryField a (put-then entryField (d .put) c));

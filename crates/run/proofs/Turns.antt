@@ -6,9 +6,11 @@ use Prim.Native.Nat.{ℕ, zero, suc, _+_, _-_, _*_, _<_, _≤_}
 use native.Mathlib.Omega.{arith}
 use native.Mathlib.Numerals.{add-one}
 use native.Mathlib.Nat.{mul-suc}
+use native.Mathlib.Decide.{ℕ-discrete}
+use borrow.Author.Tests.{eq-eqb, ne-eqb}
 use lib.Dec.{eqb}
-use lib.ListN.{length, getD, set, take, drop}
-use lib.Seq.{take-suc-set, getD-drop}
+use lib.ListN.{length, getD, set, take, drop, replicate, length-set, length-append, length-replicate}
+use lib.Seq.{take-suc-set, getD-drop, getD-set-same, getD-set-other}
 use Rattle.rules.specs.declared.Operand.{Operand}
 use Rattle.rules.specs.Basics.{pick}
 use Rattle.rules.specs.Checking.{quantum, argument}
@@ -21,7 +23,7 @@ use Rattle.asserts.specs.Sizes.{asked}
 use Rattle.counts.specs.Sums.{sizeIn}
 use Rattle.run.specs.declared.Kind.{Kind}
 use Rattle.run.specs.declared.Kind.the-variants.{Barrier}
-use Rattle.run.specs.Lines.{startIn, laneOf, lanesIn, turnList, oneOf, twoOf, oneTurns, twoTurns, barrierRow, frameFill, frameOf}
+use Rattle.run.specs.Lines.{startIn, laneOf, lanesIn, turnList, oneOf, twoOf, oneTurns, twoTurns, barrierRow, frameFill, full, sees, seen}
 
 -- ---- turns
 
@@ -86,31 +88,64 @@ unfolding rowPast
 named-place zero at = omega arith
 named-place (suc k) at = named-place k (at + 6) ∙ (let e : at + 6 + 6 * k ≡ at + 6 * suc k = omega (arith, mul-suc 6 k) in e)
 
-pub frame-all : (head qs t : List ℕ) (k n : ℕ) → (k ≡ getD head 11 0) × (k < 256) → (n ≡ getD head 12 0) × (n < 256)
-    → frameFill (map argument (rowIn namedIn 6 n head (13 + 6 * k))) (drop 0 qs) t ≡ frameOf head qs t
-unfolding argsIn
-frame-all head qs t k n ek en = rw (← ek .0, ← en .0, named-place k 13) refl
+-- zeros past the end of a table are what is read there
+full-at : (t : List ℕ) (n x : ℕ) → getD (t ++ replicate n 0) x 0 ≡ getD t x 0
+full-at [] n x = zeros n x
+  where
+    zeros : (n x : ℕ) → _≡_ {A = ℕ} (getD (replicate n 0) x 0) (getD {A = ℕ} [] x 0)
+    zeros zero x = refl
+    zeros (suc n) zero = refl
+    zeros (suc n) (suc x) = zeros n x
+full-at (y ∷ t) n zero = refl
+full-at (y ∷ t) n (suc x) = full-at t n x
 
-module _ (head qs : List ℕ) (k at i : ℕ) (t all : List ℕ) (h : frameFill (map argument (rowIn namedIn 6 k head at)) (drop i qs) t ≡ all) where
-  pub frame-turn : 0 < k → (a : ℕ) → a ≡ on head at 4 → (x : ℕ) → (x ≡ nameIn head a) × (x < 512) → (q : ℕ) → q ≡ getD qs i 0 → (t′ : List ℕ) → t′ ≡ set t x q → (next : ℕ) → next ≡ on head at 6
-      → frameFill (map argument (rowIn namedIn 6 (k - 1) head next)) (drop (i + 1) qs) t′ ≡ all
-  unfolding frameFill namedIn
-  frame-turn l a ea x ex q eq t′ et next en =
-      let z : getD (drop i qs) 0 0 ≡ q = rw (getD-drop, eq) (ap (λ (n : ℕ). getD qs n 0) (let y : i + 0 ≡ i = omega arith in y)) in
-      let y : nameIn head (at + 4) ≡ x = sym (name-on head at 4) ∙ ap (nameIn head) (sym ea) ∙ sym (ex .0) in
-      let d : drop 1 (drop i qs) ≡ drop (i + 1) qs = drop-drop i qs in
+full-long : (t : List ℕ) → 512 ≤ length (full t)
+full-long t = omega (arith, length-append t (replicate (512 - length t) 0), length-replicate {A = ℕ} (512 - length t) 0)
+
+name-small : (s : List ℕ) (at : ℕ) → nameIn s at < 512
+name-small s at = omega arith
+
+set-at : (t : List ℕ) (n v x : ℕ) → n < length t → getD (set t n v) x 0 ≡ pick (eqb n x) v (getD t x 0)
+set-at t n v x h = elim (ℕ-discrete n x) [
+  | yes e ↦ rw (eq-eqb n x e, ← e) (getD-set-same t n v 0 h)
+  | no e ↦ rw (ne-eqb n x e) (getD-set-other t n x v 0 (λ q. e (sym q)))
+]
+
+-- a table with rows entered, seen from one name
+seen-frame : (head : List ℕ) (k at : ℕ) (qs t : List ℕ) (x : ℕ) → 512 ≤ length t
+    → seen (map argument (rowIn namedIn 6 k head at)) qs (getD t x 0) x ≡ getD (frameFill (map argument (rowIn namedIn 6 k head at)) qs t) x 0
+unfolding seen frameFill rowIn namedIn
+seen-frame head zero at qs t x h = refl
+seen-frame head (suc k) at qs t x h =
+    let n = nameIn head (at + 4) in
+    let l : n < length t = omega (arith, name-small head (at + 4)) in
+    let m : 512 ≤ length (set t n (getD qs 0 0)) = omega (arith, length-set t n (getD qs 0 0)) in
+    ap (λ (b : ℕ). seen (map argument (rowIn namedIn 6 k head (at + 6))) (drop 1 qs) b x) (sym (set-at t n (getD qs 0 0) x l)) ∙ seen-frame head k (at + 6) (drop 1 qs) (set t n (getD qs 0 0)) x m
+
+pub seen-all : (bits head qs : List ℕ) (x k n r : ℕ) → (k ≡ getD head 11 0) × (k < 256) → (n ≡ getD head 12 0) × (n < 256) → r ≡ getD bits x 0
+    → seen (map argument (rowIn namedIn 6 n head (13 + 6 * k))) (drop 0 qs) r x ≡ getD (sees bits head qs) x 0
+unfolding argsIn
+seen-all bits head qs x k n r ek en er =
+    rw (← ek .0, ← en .0, named-place k 13, er ∙ sym (full-at bits (512 - length bits) x)) (seen-frame head n (13 + 6 * k) qs (full bits) x (full-long bits))
+
+module _ (head qs : List ℕ) (k at i r x all : ℕ) (h : seen (map argument (rowIn namedIn 6 k head at)) (drop i qs) r x ≡ all) where
+  pub seen-turn : 0 < k → (a : ℕ) → a ≡ on head at 4 → (n : ℕ) → (n ≡ nameIn head a) × (n < 512) → (q : ℕ) → q ≡ getD qs i 0 → (b : ℕ) → b ≡ pick (eqb n x) q r → (next : ℕ) → next ≡ on head at 6
+      → seen (map argument (rowIn namedIn 6 (k - 1) head next)) (drop (i + 1) qs) b x ≡ all
+  unfolding seen namedIn
+  seen-turn l a ea n en q eq b eb next ex =
+      let z : q ≡ getD (drop i qs) 0 0 = eq ∙ sym (rw getD-drop (ap (λ (n : ℕ). getD qs n 0) (let y : i + 0 ≡ i = omega arith in y))) in
+      let y : n ≡ nameIn head (at + 4) = en .0 ∙ ap (nameIn head) ea ∙ name-on head at 4 in
       let w = rw (row-more namedIn 6 named-ends k head at l) at h in
-      rw (et, en)
-      (ap₂ (λ (m v : List ℕ). frameFill (map argument (rowIn namedIn 6 (k - 1) head (on head at 6))) m v) (sym d) (ap₂ (λ (n m : ℕ). set t n m) (sym y) (sym z)) ∙ w)
+      rw (ex, eb, y, z, ← drop-drop i qs) w
     where
       drop-drop : (i : ℕ) (l : List ℕ) → drop 1 (drop i l) ≡ drop (i + 1) l
       drop-drop zero l = refl
       drop-drop (suc i) [] = rw (add-one (suc i)) refl
       drop-drop (suc i) (x ∷ l) = rw (add-one (suc i)) (drop-drop i l ∙ (rw (add-one i) refl))
 
-  pub frame-over : k ≤ 0 → t ≡ all
-  unfolding frameFill
-  frame-over l = rw (row-none namedIn 6 named-ends k head at l) at h
+  pub seen-over : k ≤ 0 → r ≡ all
+  unfolding seen
+  seen-over l = rw (row-none namedIn 6 named-ends k head at l) at h
 
 pub lanes-all : (regs bits : List ℕ) (k : ℕ) (p : List ℕ) (j : ℕ)
     → [] ++ lanesIn regs bits j (map quantum (rowIn operandIn 15 (k - 0) p 12)) ≡ lanesIn regs bits j (map quantum (rowIn operandIn 15 k p 12))

@@ -2,7 +2,7 @@
 use mathlib.Core.Path.{_≡_}
 use mathlib.Core.Bool.{Bool, true, false}
 use mathlib.Core.List.{List, [], _∷_, _++_, map}
-use Prim.Native.Nat.{ℕ, zero, suc, _<_, _≤_}
+use Prim.Native.Nat.{ℕ, zero, suc, _-_, _<_, _≤_}
 use lib.Dec.{eqb}
 use lib.ListN.{length, getD, set, drop, replicate}
 use Rattle.rules.specs.declared.Operand.{Operand}
@@ -138,6 +138,19 @@ frameFill (r ∷ rs) qs t = frameFill rs (drop 1 qs) (set t (r .name) (getD qs 0
 
 abbrev pub frameOf : (head qs zeros : List ℕ) → List ℕ
 frameOf head qs zeros = frameFill (map argument (argsIn head)) qs zeros
+
+-- a table of 512 words or more
+abbrev pub full : List ℕ → List ℕ
+full t = t ++ replicate (512 - length t) 0
+
+-- the bits of names: those of a header's arguments over those of a table
+abbrev pub sees : (bits head qs : List ℕ) → List ℕ
+sees bits head qs = frameOf head qs (full bits)
+
+-- the bit of one name: that of the latest row of the name
+unfoldable pub seen : List Reg → (qs : List ℕ) → (b x : ℕ) → ℕ
+seen [] qs b x = b
+seen (r ∷ rs) qs b x = seen rs (drop 1 qs) (pick (eqb (r .name) x) (getD qs 0 0) b) x
 
 -- one run of gate g on qs, within a depth
 unfoldable pub gateLines : (img gates counts places : List ℕ) → (depth g : ℕ) → List ℕ → List Entry

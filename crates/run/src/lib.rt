@@ -3,7 +3,9 @@ ghost use mathlib.Core.Path.{_≡_};
 ghost use mathlib.Core.List.{List, [], _∷_, _++_, map};
 ghost use mathlib.Core.Bool.{true, false};
 ghost use Prim.Native.Nat.{ℕ, _+_, _-_, _<_};
-ghost use lib.ListN.{length, getD, take, replicate};
+ghost use lib.Dec.{eqb};
+ghost use lib.ListN.{length, getD, take};
+ghost use Rattle.rules.specs.Basics.{pick};
 ghost use Rattle.rules.specs.Grouping.{stmt, decls};
 ghost use Rattle.rules.specs.Checking.{quantum};
 ghost use Rattle.rules.specs.Run.{Entry, entryField, barrierEndE, tops};
@@ -13,11 +15,10 @@ ghost use Rattle.output.specs.Sinks.{Put};
 ghost use Rattle.asserts.specs.Sizes.{asked};
 ghost use Rattle.tables.specs.Tables.{gateIn};
 ghost use Rattle.counts.specs.Sums.{sizeIn};
-ghost use Rattle.run.specs.Lines.{startIn, laneOf, lanesIn, oneOf, twoOf, oneTurns, twoTurns, barrierRow, called, walked, line, topLine, topLines, plainLine, frameOf, gateLines, spreadIn, Does, Moves};
+ghost use Rattle.run.specs.Lines.{startIn, laneOf, lanesIn, oneOf, twoOf, oneTurns, twoTurns, barrierRow, called, walked, line, topLine, topLines, plainLine, sees, full, gateLines, spreadIn, Does, Moves};
 use counts::common_of;
 use counts::common_row;
 use counts::size_in;
-use counts::store;
 use counts::then_inside;
 use counts::word_of;
 use items::along;
@@ -47,11 +48,36 @@ fn sum(a: u64, b: u64) -> u64
     }
 }
 
-// The first bit that an operand names, by a table of the names' first bits.
-fn start_in(bits: &[u64], o: Operand) -> u64
-    ensures { λ r. ⌜ r ≡ startIn (now (bits .entry)) o ⌝ }
+// One number where two names are the same, else another.
+fn either(n: u64, x: u64, one: u64, other: u64) -> u64
+    ensures { λ r. ⌜ r ≡ pick (eqb n x) one other ⌝ }
 {
-    let first = word_of(bits, o.name);
+    if n == x { one } else { other }
+}
+
+// The bit of a name: that of the latest argument of a header with the name, or the table's. A header is gone through for each name, so that a call
+// needs no table of its own. At the top level there is no header: no arguments.
+fn bit_of(bits: &[u64], head: &[u8], qs: &[u64], x: u64) -> u64
+    ensures { λ r. ⌜ r ≡ getD (sees (now (bits .entry)) (now (head .entry)) (now (qs .entry))) x 0 ⌝ }
+{
+    let mut at = 13 + 6 * byte_at(head, 11) as usize;
+    let mut more = byte_at(head, 12);
+    let mut i: u64 = 0;
+    let mut r = word_of(bits, x);
+    while 0 < more {
+        r = either(name(head, along(head, at, 4)), x, word_of(qs, i), r);
+        at = along(head, at, 6);
+        more -= 1;
+        i += 1;
+    }
+    r
+}
+
+// The first bit that an operand names.
+fn start_in(bits: &[u64], head: &[u8], qs: &[u64], o: Operand) -> u64
+    ensures { λ r. ⌜ r ≡ startIn (sees (now (bits .entry)) (now (head .entry)) (now (qs .entry))) o ⌝ }
+{
+    let first = bit_of(bits, head, qs, o.name);
     if o.indexed {
         return sum(first, o.index);
     }
@@ -122,30 +148,70 @@ fn each_two(out: &mut [u8], s: Sink, measures: bool, x: u64, m: u64, y: u64, n: 
 
 // ---- statements
 
-fn run_one(out: &mut [u8], s: Sink, kind: Kind, o: Operand, regs: &[u64], bits: &[u64]) -> Sink
-    ensures { λ r. ⌜ Put entryField (now (out .entry)) s (oneTurns kind (startIn (now (bits .entry)) o) (sizeIn (now (regs .entry)) (quantum o))) (now (out .exit)) r ⌝ }
+fn run_one(
+    out: &mut [u8],
+    s: Sink,
+    kind: Kind,
+    o: Operand,
+    regs: &[u64],
+    bits: &[u64],
+    head: &[u8],
+    qs: &[u64],
+) -> Sink
+    ensures { λ r. ⌜ Put entryField (now (out .entry)) s (oneTurns kind (startIn (sees (now (bits .entry)) (now (head .entry)) (now (qs .entry))) o) (sizeIn (now (regs .entry)) (quantum o))) (now (out .exit)) r ⌝ }
 {
-    each_one(out, s, kind, start_in(bits, o), size_in(regs, o, false))
+    each_one(
+        out,
+        s,
+        kind,
+        start_in(bits, head, qs, o),
+        size_in(regs, o, false),
+    )
 }
 
-fn run_two(out: &mut [u8], s: Sink, measures: bool, p: &[u8], regs: &[u64], bits: &[u64]) -> Sink
-    ensures { λ r. ⌜ Put entryField (now (out .entry)) s (twoTurns measures (startIn (now (bits .entry)) (operandIn (now (p .entry)) 4)) (sizeIn (now (regs .entry)) (quantum (operandIn (now (p .entry)) 4))) (startIn (now (bits .entry)) (operandIn (now (p .entry)) 19)) (sizeIn (now (regs .entry)) (asked measures (operandIn (now (p .entry)) 19)))) (now (out .exit)) r ⌝ }
+fn run_two(
+    out: &mut [u8],
+    s: Sink,
+    measures: bool,
+    p: &[u8],
+    regs: &[u64],
+    bits: &[u64],
+    head: &[u8],
+    qs: &[u64],
+) -> Sink
+    ensures { λ r. ⌜ Put entryField (now (out .entry)) s (twoTurns measures (startIn (sees (now (bits .entry)) (now (head .entry)) (now (qs .entry))) (operandIn (now (p .entry)) 4)) (sizeIn (now (regs .entry)) (quantum (operandIn (now (p .entry)) 4))) (startIn (sees (now (bits .entry)) (now (head .entry)) (now (qs .entry))) (operandIn (now (p .entry)) 19)) (sizeIn (now (regs .entry)) (asked measures (operandIn (now (p .entry)) 19)))) (now (out .exit)) r ⌝ }
 {
     let a = operand(p, 4);
     let b = operand(p, 19);
     let m = size_in(regs, a, false);
     let n = size_in(regs, b, measures);
-    each_two(out, s, measures, start_in(bits, a), m, start_in(bits, b), n)
+    each_two(
+        out,
+        s,
+        measures,
+        start_in(bits, head, qs, a),
+        m,
+        start_in(bits, head, qs, b),
+        n,
+    )
 }
 
-fn run_barrier(out: &mut [u8], s: Sink, p: &[u8], regs: &[u64], bits: &[u64]) -> Sink
-    ensures { λ r. ⌜ Put entryField (now (out .entry)) s (barrierRow (now (regs .entry)) (now (bits .entry)) (map quantum (rowIn operandIn 15 (getD (now (p .entry)) 4 0) (now (p .entry)) 5)) ++ (barrierEndE ∷ [])) (now (out .exit)) r ⌝ }
+fn run_barrier(
+    out: &mut [u8],
+    s: Sink,
+    p: &[u8],
+    regs: &[u64],
+    bits: &[u64],
+    head: &[u8],
+    qs: &[u64],
+) -> Sink
+    ensures { λ r. ⌜ Put entryField (now (out .entry)) s (barrierRow (now (regs .entry)) (sees (now (bits .entry)) (now (head .entry)) (now (qs .entry))) (map quantum (rowIn operandIn 15 (getD (now (p .entry)) 4 0) (now (p .entry)) 5)) ++ (barrierEndE ∷ [])) (now (out .exit)) r ⌝ }
 {
     let mut at = 5;
     let mut left = byte_at(p, 4);
     let mut r = s;
     while 0 < left {
-        r = run_one(out, r, Kind::Barrier, operand(p, at), regs, bits);
+        r = run_one(out, r, Kind::Barrier, operand(p, at), regs, bits, head, qs);
         at = along(p, at, 15);
         left -= 1;
     }
@@ -153,23 +219,32 @@ fn run_barrier(out: &mut [u8], s: Sink, p: &[u8], regs: &[u64], bits: &[u64]) ->
 }
 
 // Any statement but a call and an IF, by its tag; for another field nothing.
-fn run_plain(out: &mut [u8], s: Sink, tag: u64, p: &[u8], regs: &[u64], bits: &[u64]) -> Sink
-    ensures { λ r. ⌜ Put entryField (now (out .entry)) s (plainLine (now (regs .entry)) (now (bits .entry)) tag (now (p .entry))) (now (out .exit)) r ⌝ }
+fn run_plain(
+    out: &mut [u8],
+    s: Sink,
+    tag: u64,
+    p: &[u8],
+    regs: &[u64],
+    bits: &[u64],
+    head: &[u8],
+    qs: &[u64],
+) -> Sink
+    ensures { λ r. ⌜ Put entryField (now (out .entry)) s (plainLine (now (regs .entry)) (sees (now (bits .entry)) (now (head .entry)) (now (qs .entry))) tag (now (p .entry))) (now (out .exit)) r ⌝ }
 {
     if tag == 16 {
-        return run_one(out, s, Kind::U, operand(p, 4), regs, bits);
+        return run_one(out, s, Kind::U, operand(p, 4), regs, bits, head, qs);
     }
     if tag == 17 {
-        return run_two(out, s, false, p, regs, bits);
+        return run_two(out, s, false, p, regs, bits, head, qs);
     }
     if tag == 18 {
-        return run_two(out, s, true, p, regs, bits);
+        return run_two(out, s, true, p, regs, bits, head, qs);
     }
     if tag == 19 {
-        return run_one(out, s, Kind::Reset, operand(p, 4), regs, bits);
+        return run_one(out, s, Kind::Reset, operand(p, 4), regs, bits, head, qs);
     }
     if tag == 20 {
-        return run_barrier(out, s, p, regs, bits);
+        return run_barrier(out, s, p, regs, bits, head, qs);
     }
     s
 }
@@ -177,16 +252,24 @@ fn run_plain(out: &mut [u8], s: Sink, tag: u64, p: &[u8], regs: &[u64], bits: &[
 // ---- calls
 
 // The bits of k operands in turn j. A count is one byte, so that there is room for each.
-fn lanes(p: &[u8], k: u64, regs: &[u64], bits: &[u64], j: u64) -> [u64; 256]
+fn lanes(
+    p: &[u8],
+    k: u64,
+    regs: &[u64],
+    bits: &[u64],
+    head: &[u8],
+    qs: &[u64],
+    j: u64,
+) -> [u64; 256]
     requires { ⌜ k < 256 ⌝ }
-    ensures { λ r. ⌜ take k r ≡ lanesIn (now (regs .entry)) (now (bits .entry)) j (map quantum (rowIn operandIn 15 k (now (p .entry)) 12)) ⌝ }
+    ensures { λ r. ⌜ take k r ≡ lanesIn (now (regs .entry)) (sees (now (bits .entry)) (now (head .entry)) (now (qs .entry))) j (map quantum (rowIn operandIn 15 k (now (p .entry)) 12)) ⌝ }
 {
     let mut row = [0u64; 256];
     let mut at = 12;
     let mut i: u64 = 0;
     while i < k {
         let o = operand(p, at);
-        row[i as usize] = lane(start_in(bits, o), size_in(regs, o, false), j);
+        row[i as usize] = lane(start_in(bits, head, qs, o), size_in(regs, o, false), j);
         at = along(p, at, 15);
         i += 1;
     }
@@ -213,29 +296,6 @@ fn callee(gates: &[u64], counts: &[u64], x: u64) -> Step
     }
 }
 
-// The qubits of the arguments, by their names; the latest of a name counts.
-fn fill_frame(head: &[u8], qs: &[u64], bits: &mut [u64])
-    ensures { λ _. ⌜ now (bits .exit) ≡ frameOf (now (head .entry)) (now (qs .entry)) (now (bits .entry)) ⌝ }
-{
-    let mut at = 13 + 6 * byte_at(head, 11) as usize;
-    let mut more = byte_at(head, 12);
-    let mut i: u64 = 0;
-    while 0 < more {
-        store(bits, name(head, along(head, at, 4)), word_of(qs, i));
-        at = along(head, at, 6);
-        more -= 1;
-        i += 1;
-    }
-}
-
-fn frame(head: &[u8], qs: &[u64]) -> [u64; 512]
-    ensures { λ r. ⌜ r ≡ frameOf (now (head .entry)) (now (qs .entry)) (replicate 512 0) ⌝ }
-{
-    let mut bits = [0u64; 512];
-    fill_frame(head, qs, &mut bits);
-    bits
-}
-
 // One run of a gate on the qubits of its arguments: the statements of its body, each once, or its one entry. The depth falls with each call.
 fn run_gate(
     out: &mut [u8],
@@ -259,7 +319,6 @@ fn run_gate(
         return entries::opaque_call(out, s, name(head, 8), qs);
     }
     let none = [0u64; 0];
-    let bits = frame(head, qs);
     let mut at = next(img, place);
     let mut r = s;
     while at < img.len() {
@@ -270,26 +329,16 @@ fn run_gate(
         let p = load(img, at);
         at = next(img, at);
         if tag != 21 {
-            r = run_plain(out, r, tag, p, &none, &bits);
+            r = run_plain(out, r, tag, p, &none, &none, head, qs);
             continue;
         }
         match callee(gates, counts, name(p, 8)) {
             Step::Skip => continue,
             Step::Walk(h) => {
                 let k = byte_at(p, 11);
-                let row = lanes(p, k, &none, &bits, 0);
-                let few = k as usize;
-                r = run_gate(
-                    out,
-                    r,
-                    img,
-                    gates,
-                    counts,
-                    places,
-                    depth - 1,
-                    h,
-                    &row[0..few],
-                );
+                let row = lanes(p, k, &none, &none, head, qs, 0);
+                let n = k as usize;
+                r = run_gate(out, r, img, gates, counts, places, depth - 1, h, &row[0..n]);
             }
         }
     }
@@ -312,17 +361,19 @@ fn each_call(
     depth: usize,
     g: u64,
 ) -> Sink
-    ensures { λ r. ⌜ Put entryField (now (out .entry)) s (spreadIn (now (regs .entry)) (now (bits .entry)) (map quantum (rowIn operandIn 15 (getD (now (p .entry)) 11 0) (now (p .entry)) 12)) (gateLines (now (img .entry)) (now (gates .entry)) (now (counts .entry)) (now (places .entry)) depth g)) (now (out .exit)) r ⌝ }
+    ensures { λ r. ⌜ Put entryField (now (out .entry)) s (spreadIn (now (regs .entry)) (full (now (bits .entry))) (map quantum (rowIn operandIn 15 (getD (now (p .entry)) 11 0) (now (p .entry)) 12)) (gateLines (now (img .entry)) (now (gates .entry)) (now (counts .entry)) (now (places .entry)) depth g)) (now (out .exit)) r ⌝ }
 {
     let k = byte_at(p, 11);
     let turns = common_row(p, 12, k, regs);
     let few = k as usize;
+    let head = [0u8; 0];
+    let none = [0u64; 0];
     let mut r = s;
-    let mut j: u64 = 0;
-    while j < turns {
-        let row = lanes(p, k, regs, bits, j);
+    let mut turn: u64 = 0;
+    while turn < turns {
+        let row = lanes(p, k, regs, bits, &head, &none, turn);
         r = run_gate(out, r, img, gates, counts, places, depth, g, &row[0..few]);
-        j += 1;
+        turn += 1;
     }
     r
 }
@@ -339,7 +390,7 @@ fn run_call(
     bits: &[u64],
     depth: usize,
 ) -> Sink
-    ensures { λ r. ⌜ Put entryField (now (out .entry)) s (line (gateLines (now (img .entry)) (now (gates .entry)) (now (counts .entry)) (now (places .entry)) depth) (now (gates .entry)) (now (counts .entry)) (now (regs .entry)) (now (bits .entry)) (callIn (now (p .entry)))) (now (out .exit)) r ⌝ }
+    ensures { λ r. ⌜ Put entryField (now (out .entry)) s (line (gateLines (now (img .entry)) (now (gates .entry)) (now (counts .entry)) (now (places .entry)) depth) (now (gates .entry)) (now (counts .entry)) (now (regs .entry)) (full (now (bits .entry))) (callIn (now (p .entry)))) (now (out .exit)) r ⌝ }
 {
     match callee(gates, counts, name(p, 8)) {
         Step::Skip => s,
@@ -366,7 +417,7 @@ fn run_stmt(
     bits: &[u64],
     depth: usize,
 ) -> Ran
-    ensures { λ r. ⌜ Does (topLine (gateLines (now (img .entry)) (now (gates .entry)) (now (counts .entry)) (now (places .entry)) depth) (now (gates .entry)) (now (counts .entry)) (now (regs .entry)) (now (bits .entry)) (stmt (rest (now (img .entry)) at))) (now (img .entry)) at (now (out .entry)) s (now (out .exit)) r ⌝ }
+    ensures { λ r. ⌜ Does (topLine (gateLines (now (img .entry)) (now (gates .entry)) (now (counts .entry)) (now (places .entry)) depth) (now (gates .entry)) (now (counts .entry)) (now (regs .entry)) (full (now (bits .entry))) (stmt (rest (now (img .entry)) at))) (now (img .entry)) at (now (out .entry)) s (now (out .exit)) r ⌝ }
 {
     if img.len() <= at {
         return Ran {
@@ -376,23 +427,20 @@ fn run_stmt(
     }
     let tag = byte_at(img, at);
     let p = load(img, at);
-    let behind = next(img, at);
+    let after = next(img, at);
+    let head = [0u8; 0];
+    let none = [0u64; 0];
     if tag == 22 {
         let o = operand(p, 4);
         let width = size_in(regs, o, true);
-        let a = entries::if_begin(out, s, start_in(bits, o), width, eight_at(p, 23));
-        let b = run_stmt(
+        let a = entries::if_begin(
             out,
-            a,
-            img,
-            behind,
-            gates,
-            counts,
-            places,
-            regs,
-            bits,
-            depth,
+            s,
+            start_in(bits, &head, &none, o),
+            width,
+            eight_at(p, 23),
         );
+        let b = run_stmt(out, a, img, after, gates, counts, places, regs, bits, depth);
         let c = entries::if_end(out, b.sink);
         return Ran {
             next: b.next,
@@ -402,14 +450,14 @@ fn run_stmt(
     if tag == 21 {
         let a = run_call(out, s, img, p, gates, counts, places, regs, bits, depth);
         return Ran {
-            next: behind,
+            next: after,
             sink: a,
         };
     }
     if is_stmt(tag) {
-        let a = run_plain(out, s, tag, p, regs, bits);
+        let a = run_plain(out, s, tag, p, regs, bits, &head, &none);
         return Ran {
-            next: behind,
+            next: after,
             sink: a,
         };
     }
@@ -437,7 +485,7 @@ fn top_turn(
     depth: usize,
 ) -> Turn
     requires { ⌜ at < length (now img) ⌝ }
-    ensures { λ r. ⌜ Moves (λ i at. topLines (gateLines (now (img .entry)) (now (gates .entry)) (now (counts .entry)) (now (places .entry)) depth) (now (gates .entry)) (now (counts .entry)) (now (regs .entry)) (now (bits .entry)) (tops (decls i false (rest (now (img .entry)) at)))) (now (img .entry)) inside at (now (out .entry)) s (now (out .exit)) r ⌝ }
+    ensures { λ r. ⌜ Moves (λ i at. topLines (gateLines (now (img .entry)) (now (gates .entry)) (now (counts .entry)) (now (places .entry)) depth) (now (gates .entry)) (now (counts .entry)) (now (regs .entry)) (full (now (bits .entry))) (tops (decls i false (rest (now (img .entry)) at)))) (now (img .entry)) inside at (now (out .entry)) s (now (out .exit)) r ⌝ }
 {
     let tag = byte_at(img, at);
     let p = load(img, at);
@@ -476,7 +524,7 @@ pub fn run_top(
     bits: &[u64],
     depth: usize,
 ) -> Sink
-    ensures { λ r. ⌜ Put entryField (now (out .entry)) s (topLines (gateLines (now (img .entry)) (now (gates .entry)) (now (counts .entry)) (now (places .entry)) depth) (now (gates .entry)) (now (counts .entry)) (now (regs .entry)) (now (bits .entry)) (tops (decls false false (rest (now (img .entry)) 0)))) (now (out .exit)) r ⌝ }
+    ensures { λ r. ⌜ Put entryField (now (out .entry)) s (topLines (gateLines (now (img .entry)) (now (gates .entry)) (now (counts .entry)) (now (places .entry)) depth) (now (gates .entry)) (now (counts .entry)) (now (regs .entry)) (full (now (bits .entry))) (tops (decls false false (rest (now (img .entry)) 0)))) (now (out .exit)) r ⌝ }
 {
     let mut w = Turn {
         next: 0,

@@ -179,3 +179,5 @@ module _ (gates regs img : List ℕ) (at : ℕ) (b : List ℕ) (s : Sink) where
         }
 
 pub ruleset done-laws = (done-end, done-plain, done-none, done-if)
+
+pub ruleset u-laws = (u-said)

@@ -8,7 +8,7 @@ use lib.ListN.{length}
 use Rattle.rules.specs.Run.{entryField}
 use Rattle.views.specs.View.{rest}
 use Rattle.output.specs.Sinks.{Owes, owes-less, owes-none, put-none}
-use Rattle.run.specs.Lines.{gateLines}
+use Rattle.run.specs.Lines.{gateLines, sees}
 use Rattle.run.proofs.Turns.{owes-from}
 use Rattle.run.proofs.Bodies.{gate-zero, gate-opaque, gate-body, Lines, body-plain, body-over, body-done, skip-turn, walk-turn, not-true, not-false}
 use Prim.Native.Nat.{ℕ, _<_}
@@ -21,7 +21,6 @@ use Rattle.counts.proofs.word_of.Reads as word-of-reads
 use Rattle.entries.proofs.opaque_call.Reads as opaque-call-reads
 use Rattle.items.proofs.byte_at.Reads as byte-at-reads
 use Rattle.run.proofs.callee.Reads as callee-reads
-use Rattle.run.proofs.frame.Reads as frame-reads
 use Rattle.run.proofs.lanes.Reads as lanes-reads
 use Rattle.run.proofs.run_plain.Reads as run-plain-reads
 use Rattle.views.proofs.is_one.Reads as is-one-reads
@@ -42,11 +41,11 @@ run-gate-below t =
     and 6 run-gate-kinds.ps (falls 6 run-gate-kinds.ps _<_ μ-run-gate t) run-gate.Pre
 
 abbrev run-gate-Inv-loop : run-gate-lts.InvT-loop
-run-gate-Inv-loop out₀ img gates counts places depth g qs place none bits at₀ r₀ out at r =
-    (length out ≡ length out₀) × Owes entryField out₀ r₀ (gateLines img gates counts places depth g qs) out r (Lines (gateLines img gates counts places (depth - 1)) gates counts [] bits (rest img at))
+run-gate-Inv-loop out₀ img gates counts places depth g qs place head none at₀ r₀ out at r =
+    (length out ≡ length out₀) × Owes entryField out₀ r₀ (gateLines img gates counts places depth g qs) out r (Lines (gateLines img gates counts places (depth - 1)) gates counts [] (sees [] head qs) (rest img at))
 
 abbrev run-gate-μ-loop : run-gate-lts.MeasureT-loop
-run-gate-μ-loop out₀ img gates counts places depth g qs place none bits at₀ r₀ out at r = length img - at
+run-gate-μ-loop out₀ img gates counts places depth g qs place head none at₀ r₀ out at r = length img - at
 
 pub +run-gate-spec : {M : Type 1} → statement M
 +run-gate-spec = close μ-run-gate λ t. run-gate-lts.spec (
@@ -60,8 +59,6 @@ pub +run-gate-spec : {M : Type 1} → statement M
   name-reads.Learnt,
   opaque-call-reads.Asked,
   opaque-call-reads.Learnt,
-  frame-reads.Asked,
-  frame-reads.Learnt,
   next-reads.Asked,
   next-reads.Learnt,
   byte-at-reads.Asked,
@@ -88,34 +85,33 @@ pub +run-gate-spec : {M : Type 1} → statement M
     (λ c. search needs)
     (λ c. gate-opaque _ _ _ _ _ _ _ (c .before .before .before .before .before .before .before .before .before .if1 .left) _ (c .before .before .before .before .before .before .before .before .word-of .ensures) _ (c .before .before .before .before .before .before .before .load .ensures) _ (c .before .before .before .before .before .before .is-one .ensures) (not-true _ (c .before .before .before .before .before .if2 .taken)) _ (c .before .before .before .name .ensures) _ _ _ _ (c .before .before .opaque-call .ensures))
     (λ c κs. search needs)
-    (λ c κs. search needs)
-    (λ c. (refl, owes-from _ _ _ _ (gate-body _ _ _ _ _ _ _ (c .before .before .before .before .before .before .if1 .left) _ (c .before .before .before .before .before .word-of .ensures) _ (c .before .before .before .before .load .ensures) _ (c .before .before .before .is-one .ensures) (not-false _ (c .before .before .if2 .left)) _ (c .before .frame .ensures) _ (c .next .ensures))))
+    (λ c. (refl, owes-from _ _ _ _ (gate-body _ _ _ _ _ _ _ (c .before .before .before .before .before .if1 .left) _ (c .before .before .before .before .word-of .ensures) _ (c .before .before .before .load .ensures) _ (c .before .before .is-one .ensures) (not-false _ (c .before .if2 .left)) _ refl _ (c .next .ensures))))
     (λ c κs. search needs)
     (λ c. search needs)
-    (λ c. owes-none entryField ((c .before .before .before .loop .inv .1)) (body-over _ _ _ _ _ _ _ (c .before .before .loop-test .taken) _ (c .before .byte-at .ensures) _ refl _ refl (c .if3 .taken)))
+    (λ c. owes-none entryField (c .before .before .before .loop .inv .1) (body-over _ _ _ _ _ _ _ (c .before .before .loop-test .taken) _ (c .before .byte-at .ensures) _ refl _ refl (c .if3 .taken)))
     (λ c κs. search needs)
     (λ c κs. search needs)
     (λ c. search needs)
     (λ c. search needs)
     (λ c κs. search needs)
     (λ c. omega (arith, (c .before .before .before .before .before .before .before .next2 .ensures), (c .before .before .before .before .before .before .before .before .before .before .before .loop-test .taken)))
-    (λ c. ((c .before .before .run-plain .kept .0) ∙ (c .before .before .before .before .before .before .before .before .before .before .before .before .loop .inv .0), owes-less entryField ((c .before .before .before .before .before .before .before .before .before .before .before .before .loop .inv .1)) (body-plain _ _ _ _ _ _ _ (c .before .before .before .before .before .before .before .before .before .before .before .loop-test .taken) _ (c .before .before .before .before .before .before .before .before .before .before .byte-at .ensures) _ (c .before .before .before .before .before .before .before .before .load2 .ensures) _ (c .before .before .before .before .before .before .before .next2 .ensures) (c .before .before .before .before .before .before .before .before .before .if3 .left) (c .before .before .before .before .before .before .if4 .taken)) (c .before .before .run-plain .ensures)))
+    (λ c. ((c .before .before .run-plain .kept .0) ∙ (c .before .before .before .before .before .before .before .before .before .before .before .before .loop .inv .0), owes-less entryField (c .before .before .before .before .before .before .before .before .before .before .before .before .loop .inv .1) (body-plain _ _ _ _ _ _ _ (c .before .before .before .before .before .before .before .before .before .before .before .loop-test .taken) _ (c .before .before .before .before .before .before .before .before .before .before .byte-at .ensures) _ (c .before .before .before .before .before .before .before .before .load2 .ensures) _ (c .before .before .before .before .before .before .before .next2 .ensures) (c .before .before .before .before .before .before .before .before .before .if3 .left) (c .before .before .before .before .before .before .if4 .taken)) (c .before .before .run-plain .ensures)))
     (λ c κs. search needs)
     (λ c κs. search needs)
     (λ c. search needs)
     (λ c. omega (arith, (c .before .before .before .before .before .next2 .ensures), (c .before .before .before .before .before .before .before .before .before .loop-test .taken)))
-    (λ c. ((c .before .before .before .before .before .before .before .before .before .before .loop .inv .0), owes-less entryField ((c .before .before .before .before .before .before .before .before .before .before .loop .inv .1)) (skip-turn _ _ _ _ _ _ _ (c .before .before .before .before .before .before .before .before .before .loop-test .taken) _ (c .before .before .before .before .before .before .before .before .byte-at .ensures) _ (c .before .before .before .before .before .before .load2 .ensures) _ (c .before .before .before .before .before .next2 .ensures) (c .before .before .before .before .if4 .left) _ (c .before .before .before .name2 .ensures) _ (c .before .before .callee .ensures) ((c .enum-told .given .1))) (put-none entryField _ _)))
+    (λ c. ((c .before .before .before .before .before .before .before .before .before .before .loop .inv .0), owes-less entryField (c .before .before .before .before .before .before .before .before .before .before .loop .inv .1) (skip-turn _ _ _ _ _ _ _ (c .before .before .before .before .before .before .before .before .before .loop-test .taken) _ (c .before .before .before .before .before .before .before .before .byte-at .ensures) _ (c .before .before .before .before .before .before .load2 .ensures) _ (c .before .before .before .before .before .next2 .ensures) (c .before .before .before .before .if4 .left) _ (c .before .before .before .name2 .ensures) _ (c .before .before .callee .ensures) (c .enum-told .given .1)) (put-none entryField _ _)))
     (λ c. search needs)
     (λ c κs. search needs)
     (λ c. search needs)
     (λ c. search needs)
     (λ c κs. (c .before .before .byte-at2 .ensures .1))
-    (λ c. omega (arith, (c .before .before .before .before .before .before .before .before .before .before .before .before .before .before .before .before .before .before .before .before .before .before .before .if1 .left)))
+    (λ c. omega (arith, (c .before .before .before .before .before .before .before .before .before .before .before .before .before .before .before .before .before .before .before .before .before .before .if1 .left)))
     (λ c. search needs)
     (λ c. search needs)
     (λ c. omega (arith, (c .before .before .before .before .before .byte-at2 .ensures .1)))
-    (λ c κs. omega (arith, (c .before .before .before .before .before .before .before .before .before .before .before .before .before .before .before .before .before .before .before .before .before .before .before .before .before .if1 .left), (c .before .before .before .before .before .before .before .before .before .before .before .before .before .before .before .before .before .before .before .before .before .before .before .before .before .before .before .before .before .before .before .before .pre)))
+    (λ c κs. omega (arith, (c .before .before .before .before .before .before .before .before .before .before .before .before .before .before .before .before .before .before .before .before .before .before .before .before .if1 .left), (c .before .before .before .before .before .before .before .before .before .before .before .before .before .before .before .before .before .before .before .before .before .before .before .before .before .before .before .before .before .before .before .pre)))
     (λ c. omega (arith, (c .before .before .before .before .before .before .before .before .before .before .before .before .before .before .before .before .next2 .ensures), (c .before .before .before .before .before .before .before .before .before .before .before .before .before .before .before .before .before .before .before .before .loop-test .taken)))
-    (λ c. ((c .before .before .run-gate .kept .0) ∙ (c .before .before .before .before .before .before .before .before .before .before .before .before .before .before .before .before .before .before .before .before .before .loop .inv .0), owes-less entryField ((c .before .before .before .before .before .before .before .before .before .before .before .before .before .before .before .before .before .before .before .before .before .loop .inv .1)) (walk-turn _ _ _ _ _ _ (c .before .before .before .before .before .before .before .before .before .before .before .before .before .before .before .before .before .before .before .before .loop-test .taken) _ (c .before .before .before .before .before .before .before .before .before .before .before .before .before .before .before .before .before .before .before .byte-at .ensures) _ (c .before .before .before .before .before .before .before .before .before .before .before .before .before .before .before .before .before .load2 .ensures) _ (c .before .before .before .before .before .before .before .before .before .before .before .before .before .before .before .before .next2 .ensures) (c .before .before .before .before .before .before .before .before .before .before .before .before .before .before .before .if4 .left) _ (c .before .before .before .before .before .before .before .before .before .before .before .before .before .before .name2 .ensures) _ (c .before .before .before .before .before .before .before .before .before .before .before .before .before .callee .ensures) _ ((c .before .before .before .before .before .before .before .before .before .before .before .h .given .1)) _ (c .before .before .before .before .before .before .before .before .before .byte-at2 .ensures) _ (c .before .before .before .before .before .before .lanes .ensures)) (c .before .before .run-gate .ensures)))
+    (λ c. ((c .before .before .run-gate .kept .0) ∙ (c .before .before .before .before .before .before .before .before .before .before .before .before .before .before .before .before .before .before .before .before .before .loop .inv .0), owes-less entryField (c .before .before .before .before .before .before .before .before .before .before .before .before .before .before .before .before .before .before .before .before .before .loop .inv .1) (walk-turn _ _ _ _ _ _ (c .before .before .before .before .before .before .before .before .before .before .before .before .before .before .before .before .before .before .before .before .loop-test .taken) _ (c .before .before .before .before .before .before .before .before .before .before .before .before .before .before .before .before .before .before .before .byte-at .ensures) _ (c .before .before .before .before .before .before .before .before .before .before .before .before .before .before .before .before .before .load2 .ensures) _ (c .before .before .before .before .before .before .before .before .before .before .before .before .before .before .before .before .next2 .ensures) (c .before .before .before .before .before .before .before .before .before .before .before .before .before .before .before .if4 .left) _ (c .before .before .before .before .before .before .before .before .before .before .before .before .before .before .name2 .ensures) _ (c .before .before .before .before .before .before .before .before .before .before .before .before .before .callee .ensures) _ (c .before .before .before .before .before .before .before .before .before .before .before .h .given .1) _ (c .before .before .before .before .before .before .before .before .before .byte-at2 .ensures) _ (c .before .before .before .before .before .before .lanes .ensures)) (c .before .before .run-gate .ensures)))
     (λ c. search needs)
-    (λ c. owes-none entryField ((c .before .loop .inv .1)) (body-done _ _ _ _ _ _ _ (c .loop-test .left)))
+    (λ c. owes-none entryField (c .before .loop .inv .1) (body-done _ _ _ _ _ _ _ (c .loop-test .left)))

@@ -7,17 +7,17 @@ use Rattle.rules.specs.Checking.{quantum}
 use Rattle.views.specs.View.{operandIn, rowIn}
 use Rattle.rules.specs.Run.{entryField}
 use Rattle.output.specs.Sinks.{Owes, owes-less, owes-none, put-then}
-use Rattle.run.specs.Lines.{barrierRow}
+use Rattle.run.specs.Lines.{barrierRow, sees}
 use Rattle.run.proofs.Turns.{owes-from, barrier-more, barrier-none}
 use Rattle.run.proofs.run_barrier.Statement.{statement}
 use Rattle.run.proofs.run_barrier.Tie as tie
 
 abbrev Inv-loop : tie.InvT-loop
-Inv-loop out₀ p regs bits at₀ left₀ r₀ out at left r =
-    (length out ≡ length out₀) × Owes entryField out₀ r₀ (barrierRow regs bits (map quantum (rowIn operandIn 15 (getD p 4 0) p 5))) out r (barrierRow regs bits (map quantum (rowIn operandIn 15 left p at)))
+Inv-loop out₀ p regs bits head qs at₀ left₀ r₀ out at left r =
+    (length out ≡ length out₀) × Owes entryField out₀ r₀ (barrierRow regs (sees bits head qs) (map quantum (rowIn operandIn 15 (getD p 4 0) p 5))) out r (barrierRow regs (sees bits head qs) (map quantum (rowIn operandIn 15 left p at)))
 
 abbrev μ-loop : tie.MeasureT-loop
-μ-loop out₀ p regs bits at₀ left₀ r₀ out at left r = left
+μ-loop out₀ p regs bits head qs at₀ left₀ r₀ out at left r = left
 
 pub run-barrier-spec : {M : Type 1} → statement M
 run-barrier-spec =

@@ -6,7 +6,7 @@ use mathlib.Core.Bool.{false}
 use lib.ListN.{length}
 use Rattle.rules.specs.Run.{entryField}
 use Rattle.output.specs.Sinks.{Owes, owes-none}
-use Rattle.run.specs.Lines.{gateLines}
+use Rattle.run.specs.Lines.{full, gateLines}
 use Rattle.run.proofs.Turns.{owes-from}
 use Rattle.run.proofs.Tops.{topsFrom, tops-end, moved}
 use Rattle.run.proofs.run_top.Statement.{statement}
@@ -14,7 +14,7 @@ use Rattle.run.proofs.run_top.Tie as tie
 
 abbrev Inv-loop : tie.InvT-loop
 Inv-loop out₀ img gates counts places regs bits depth w₀ out w =
-    (length out ≡ length out₀) × Owes entryField out₀ (w₀ .sink) (topsFrom (gateLines img gates counts places depth) gates counts regs bits img false 0) out (w .sink) (topsFrom (gateLines img gates counts places depth) gates counts regs bits img (w .inside) (w .next))
+    (length out ≡ length out₀) × Owes entryField out₀ (w₀ .sink) (topsFrom (gateLines img gates counts places depth) gates counts regs (full bits) img false 0) out (w .sink) (topsFrom (gateLines img gates counts places depth) gates counts regs (full bits) img (w .inside) (w .next))
 
 abbrev μ-loop : tie.MeasureT-loop
 μ-loop out₀ img gates counts places regs bits depth w₀ out w = length img - w .next

@@ -1,5 +1,5 @@
 use borrow.Author.Needs.{needs}
-use Rattle.typing.proofs.Statements.{u-said}
+use Rattle.typing.proofs.Statements.{u-laws}
 use Rattle.typing.proofs.check_u.Statement.{statement}
 use Rattle.typing.proofs.check_u.Tie as tie
 
@@ -12,4 +12,4 @@ check-u-spec =
     (λ c κs. search needs)
     (λ c κs. search needs)
     (λ c. search needs)
-    (λ c. u-said _ _ _ _ _ _ (c .before .before .before .before .before .before .before .before .before .four-at .ensures) _ (c .before .before .before .before .before .before .before .operand .ensures) _ _ (c .before .before .before .before .before .before .assert-reg .ensures) _ _ (c .before .before .check-exprs .ensures)))
+    (λ c. search u-laws))
