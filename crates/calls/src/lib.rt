@@ -109,8 +109,8 @@ fn link_call(
 
 // Where a walk over the fields stands: in a body or not, and whose body it is.
 struct Place {
-    inside: bool,
     from: usize,
+    inside: bool,
 }
 
 // The place after a GATE: in its body, if it has one. A gate seen before has the number of its first entry, so its calls count as that one's.

@@ -5,7 +5,8 @@ use mathlib.Core.Bool.{Bool, true, false}
 use Prim.Native.Nat.{ℕ, zero, suc, _+_, _≤_, _<_}
 use native.Mathlib.Omega.{arith}
 use borrow.Author.Tests.{lt-ltb, le-ltb, eq-eqb, ne-eqb}
-use lib.ListN.{length, drop, length-map}
+use lib.ListN.{length, take, drop, length-map}
+use lib.Seq.{take-at}
 use lib.Dec.{ltb, eqb}
 use Rattle.rules.specs.declared.Answer.{Answer}
 use Rattle.rules.specs.declared.Answer.the-variants.{Done, Errors, Refused, Room}
@@ -62,17 +63,31 @@ module _ (img o none none′ : List ℕ) (j : Judged) (w : All img none none′ 
           record { answer = rw (q, z, c, le-ltb (length o) 0 g) refl; buffer = rw (q, le-ltb (length o) 0 g) refl };
     }
 
-    pub some-listed : (j .sink .items ≡ 0 → ⊥) → (o′ : List ℕ) (k : Judged) → All img o o′ k → Serves checkRead img o o′ (Errors (j .sink .items) (j .sink .bytes))
+    -- some errors, whose bytes lie over the front of the buffer
+    some : (j .sink .items ≡ 0 → ⊥) → (o′ : List ℕ)
+        → ((p : Program) → read img ≡ program p → o′ ≡ flat (map errorField (errors p)) ++ drop (length (flat (map errorField (errors p)))) o)
+        → (a : Answer) → a ≡ Errors (j .sink .items) (j .sink .bytes) → Serves checkRead img o o′ a
     unfolding checkRead lay
-    some-listed z o′ k v = record {
+    some z o′ over a ea = rw ea (record {
       gives = λ p e.
           let m : eqb (length (map errorField (errors p))) 0 ≡ false = ne-eqb _ 0 (λ q. z (items-are p e ∙ sym (fields-are p) ∙ q)) in
-          let n : length (flat (map errorField (errors p))) ≤ length o = rw (bytes-are p e) at h in
           record {
             answer = rw (long p e, m) (ap₂ Errors (items-are p e ∙ sym (fields-are p)) (bytes-are p e));
-            buffer = rw (long p e) (v .said p e .wrote .buffer fits ∙ laid o (flat (map errorField (errors p))) n);
+            buffer = rw (long p e) (over p e);
           };
-    }
+    })
+
+    pub some-listed : (j .sink .items ≡ 0 → ⊥) → (o′ : List ℕ) (k : Judged) → All img o o′ k → (a : Answer) → a ≡ Errors (j .sink .items) (j .sink .bytes) → Serves checkRead img o o′ a
+    some-listed z o′ k v =
+        some z o′ (λ p e. v .said p e .wrote .buffer fits ∙ laid o (flat (map errorField (errors p))) (rw (bytes-are p e) at h))
+
+    -- from where they were held, if all of them fit there
+    pub some-held : (j .sink .items ≡ 0 → ⊥) → (m : ℕ) → length none ≡ m → m ≤ most → j .sink .bytes ≤ m → (o′ : List ℕ)
+        → o′ ≡ take (j .sink .bytes) none′ ++ drop (j .sink .bytes) o → (a : Answer) → a ≡ Errors (j .sink .items) (j .sink .bytes) → Serves checkRead img o o′ a
+    some-held z m em f k o′ x = some z o′ (λ p e.
+        let bs = flat (map errorField (errors p)) in
+        let held : none′ ≡ bs ++ drop (length bs) none = w .said p e .wrote .buffer (omega arith) ∙ laid none bs (rw em (rw (bytes-are p e) at k)) in
+        x ∙ rw (bytes-are p e, held, take-at bs (drop (length bs) none) (length bs) refl) refl)
 
 -- ---- the whole service
 

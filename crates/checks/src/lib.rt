@@ -1,6 +1,8 @@
 // The check of an image: its errors told in 01's order, counted first and written second.
 ghost use mathlib.Core.Path.{_≡_};
-ghost use Prim.Native.Nat.{ℕ, _+_};
+ghost use mathlib.Core.List.{_++_};
+ghost use Prim.Native.Nat.{ℕ, _+_, _≤_};
+ghost use lib.ListN.{length, take, drop};
 ghost use Rattle.checks.specs.Told.{Local, All};
 ghost use Rattle.checks.specs.Served.{Gives, Serves};
 ghost use Rattle.rules.specs.Answers.{checkRead, check as checked};
@@ -54,12 +56,34 @@ pub fn tell_errors(out: &mut [u8], img: &[u8]) -> Judged
     }
 }
 
-// The answer for an image that is read: its errors are counted first, over an empty buffer, and written where there is room for all of them.
+// The first n bytes that are held, laid over the front of a buffer.
+fn lay(out: &mut [u8], held: &[u8], n: usize)
+    requires { ⌜ (n ≤ length (now out)) × (n ≤ length (now held)) ⌝ }
+    ensures { λ _. ⌜ now (out .exit) ≡ take n (now (held .entry)) ++ drop n (now (out .entry)) ⌝ }
+{
+    let mut i = 0;
+    while i < n {
+        out[i] = held[i];
+        i += 1;
+    }
+}
+
+fn some_errors(s: Sink) -> Answer
+    ensures { λ r. ⌜ r ≡ Answer.Errors (s .items) (s .bytes) ⌝ }
+{
+    Answer::Errors {
+        errors: s.items,
+        bytes: s.bytes,
+    }
+}
+
+// The answer for an image that is read. A refusal leaves the lent buffer as it is, so the errors are written to one of our own first,
+// as far as they fit there, and go from there to the lent one; where they do not fit, they are told a second time.
 fn check_read(image: &[u8], out: &mut [u8]) -> Answer
     ensures { λ r. ⌜ Serves checkRead (now (image .entry)) (now (out .entry)) (now (out .exit)) r ⌝ }
 {
-    let mut none = [0u8; 0];
-    let need = tell_errors(&mut none, image);
+    let mut held = [0u8; 81920];
+    let need = tell_errors(&mut held, image);
     let s = need.sink;
     if out.len() < s.bytes {
         return Answer::Room {
@@ -73,11 +97,12 @@ fn check_read(image: &[u8], out: &mut [u8]) -> Answer
             bytes: s.bytes,
         };
     }
-    tell_errors(out, image);
-    Answer::Errors {
-        errors: s.items,
-        bytes: s.bytes,
+    if 81920 < s.bytes {
+        tell_errors(out, image);
+        return some_errors(s);
     }
+    lay(out, &held, s.bytes);
+    some_errors(s)
 }
 
 // Checks an image of any bytes.

@@ -86,9 +86,9 @@ pub struct Regs {
 // What one field does to a collection: the place after it, whether a body is open then, the rows so far, and the counts.
 pub struct Turn {
     pub next: usize,
-    pub inside: bool,
     pub count: usize,
     pub sink: Sink,
+    pub inside: bool,
 }
 
 // One field: a register is entered after its errors are told; the later one wins.

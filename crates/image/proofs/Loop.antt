@@ -187,14 +187,6 @@ ready-start img t h e = record {
   reads = rw (le-leb _ _ h) (sym (onto-none _));
 }
 
--- the table's count is that of the names
-pub ready-few : (img : List ℕ) (c : Counts) (t : Names) (at : ℕ) → Ready img c t at → t .count ≤ 512
-unfolding table
-ready-few img c t at w =
-    let k = length (names (w .done)) in
-    let e : t .count ≡ k = ap (λ (u : Names). u .count) (w .noted .tabled) ∙ starts-length k img 0 in
-    omega (arith, w .tally .names-are, w .few-names)
-
 -- one step of fuel
 module _ (c : Counts) (ns : List (List ℕ)) (img : List ℕ) (at : ℕ) (h : at < length img) where
   stop-here : (k j : ℕ) → field c ns img at ≡ no j → from (suc k) c ns img at ≡ refused j at

@@ -2,18 +2,20 @@
 ghost use mathlib.Core.Path.{_≡_};
 ghost use mathlib.Core.Bool.{false, _&&_};
 ghost use Prim.Native.Nat.{_+_, _-_, _≤_, _<_};
-ghost use lib.ListN.{getD};
+ghost use lib.ListN.{length, getD};
 ghost use lib.Dec.{eqb, leb};
 ghost use Rattle.rules.specs.Basics.{pick};
 ghost use Rattle.rules.specs.Syntax.{cx};
 ghost use Rattle.rules.specs.Items.{as-skip, times, an, operand};
 ghost use Rattle.rules.specs.Reading.{sameBytes, among, fresh, include-field, reg-field, gate-lists, gate-field, u-field, pair-field, reset-field, barrier-field, call-lists, call-field, if-field, items, payload, isReg, placed, within, next, load-at, field};
 ghost use Rattle.items.specs.Ends.{after, counted};
-ghost use Rattle.image.specs.Table.{names-of, noted-of};
+ghost use Rattle.image.specs.Table.{names-of, tabled, stirred, keyOf, keyAt, slotOf, Keyed, Marked, Notes};
 ghost use Rattle.image.specs.Whole.{refusal, closed-of, Reads};
+use items::along;
 use items::byte_at;
 use items::count_at;
 use items::eight_after;
+use items::eight_at;
 use items::expr_after;
 use items::exprs_after;
 use items::flag_after;
@@ -316,16 +318,69 @@ pub fn load<'a>(img: &'a [u8], at: usize) -> &'a [u8]
     &img[from..from + len]
 }
 
-// Is the name among those of the table?
-fn known(img: &[u8], t: Names, p: &[u8]) -> bool
-    requires { ⌜ t .count ≤ 512 ⌝ }
-    ensures { λ r. ⌜ r ≡ among (now (p .entry)) (names-of (now (img .entry)) t) ⌝ }
+// One step of a key: a number below 2^32 takes in another.
+fn stir(h: u64, w: u64) -> u64
+    requires { ⌜ (h < 4294967296) × (w < 4294967296) ⌝ }
+    ensures { λ r. ⌜ (r ≡ stirred h w) × (r < 4294967296) ⌝ }
 {
-    let n = t.count;
+    (h * 2654435761 + w) % 4294967296
+}
+
+// The key of a name: a number made of all its bytes, eight at a time in two halves, so that names with different keys differ.
+fn key(p: &[u8]) -> u64
+    ensures { λ r. ⌜ r ≡ keyOf (now (p .entry)) ⌝ }
+{
+    let mut a: u64 = 0;
+    let mut b: u64 = 0;
+    let mut at: usize = 0;
+    let mut more = p.len() / 8 + 1;
+    while 0 < more {
+        let w = eight_at(p, at);
+        a = stir(a, w % 4294967296);
+        b = stir(b, w / 4294967296);
+        at = along(p, at, 8);
+        more -= 1;
+    }
+    a + 4294967296 * b
+}
+
+// The slot of a key, one of 8192.
+fn slot(k: u64) -> usize
+    ensures { λ r. ⌜ (r ≡ slotOf k) × (r < 8192) ⌝ }
+{
+    let x = stir(k % 4294967296, k / 4294967296);
+    (stir(x, 0) / 524288) as usize
+}
+
+// The key of the name that stands at a place, 0 where no NAME does.
+fn field_key(img: &[u8], at: usize) -> u64
+    ensures { λ r. ⌜ r ≡ keyAt (now (img .entry)) at ⌝ }
+{
+    if byte_at(img, at) == 1 {
+        return key(load(img, at));
+    }
+    0
+}
+
+// Is the name with the key k the one at a place, which has the key x? Bytes are compared where the keys are equal.
+fn same_name(img: &[u8], at: usize, x: u64, p: &[u8], k: u64) -> bool
+    requires { ⌜ (x ≡ keyOf (load-at (now img) at)) × (k ≡ keyOf (now p)) ⌝ }
+    ensures { λ r. ⌜ r ≡ sameBytes (now (p .entry)) (load-at (now (img .entry)) at) ⌝ }
+{
+    if x == k {
+        return same(p, load(img, at));
+    }
+    false
+}
+
+// Is the name with the key k among the n of the table?
+fn listed(img: &[u8], places: &[usize], keys: &[u64], n: usize, p: &[u8], k: u64) -> bool
+    requires { ⌜ Keyed (now img) (now places) (now keys) n × (k ≡ keyOf (now p)) ⌝ }
+    ensures { λ r. ⌜ r ≡ among (now (p .entry)) (names-of (now (img .entry)) (tabled (now (places .entry)) n)) ⌝ }
+{
     let mut i = 0;
     while i < n {
-        let o = t.at[i];
-        if same(p, load(img, o)) {
+        if same_name(img, places[i], keys[i], p, k) {
             return true;
         }
         i += 1;
@@ -333,10 +388,37 @@ fn known(img: &[u8], t: Names, p: &[u8]) -> bool
     false
 }
 
+// Is the name among those of the table? If its slot has no mark, it is not.
+fn known(
+    img: &[u8],
+    places: &[usize],
+    keys: &[u64],
+    marks: &[u8],
+    n: usize,
+    p: &[u8],
+    k: u64,
+) -> bool
+    requires { ⌜ Keyed (now img) (now places) (now keys) n × Marked (now keys) (now marks) n × (k ≡ keyOf (now p)) ⌝ }
+    ensures { λ r. ⌜ r ≡ among (now (p .entry)) (names-of (now (img .entry)) (tabled (now (places .entry)) n)) ⌝ }
+{
+    if byte_at(marks, slot(k)) == 0 {
+        return false;
+    }
+    listed(img, places, keys, n, p, k)
+}
+
 // 1 to 64 bytes, unlike any earlier name.
-fn fresh_name(img: &[u8], t: Names, p: &[u8]) -> bool
-    requires { ⌜ t .count ≤ 512 ⌝ }
-    ensures { λ r. ⌜ r ≡ fresh (names-of (now (img .entry)) t) (now (p .entry)) ⌝ }
+fn fresh_name(
+    img: &[u8],
+    places: &[usize],
+    keys: &[u64],
+    marks: &[u8],
+    n: usize,
+    p: &[u8],
+    k: u64,
+) -> bool
+    requires { ⌜ Keyed (now img) (now places) (now keys) n × Marked (now keys) (now marks) n × (k ≡ keyOf (now p)) ⌝ }
+    ensures { λ r. ⌜ r ≡ fresh (names-of (now (img .entry)) (tabled (now (places .entry)) n)) (now (p .entry)) ⌝ }
 {
     if p.len() < 1 {
         return false;
@@ -344,34 +426,53 @@ fn fresh_name(img: &[u8], t: Names, p: &[u8]) -> bool
     if 64 < p.len() {
         return false;
     }
-    !known(img, t, p)
+    !known(img, places, keys, marks, n, p, k)
 }
 
-// The table after a field: a NAME's place is kept.
-fn noted(t: Names, tag: u64, at: usize) -> Names
-    ensures { λ r. ⌜ r ≡ noted-of t tag at ⌝ }
+// The table after a field: a NAME's place is kept, with its key and its mark.
+fn noted(
+    places: &mut [usize],
+    keys: &mut [u64],
+    marks: &mut [u8],
+    n: usize,
+    tag: u64,
+    at: usize,
+    k: u64,
+) -> usize
+    requires { ⌜ (length (now places) ≡ 512) × (length (now keys) ≡ 512) × (length (now marks) ≡ 8192) ⌝ }
+    ensures { λ r. ⌜ Notes tag at k n (now (places .entry)) (now (keys .entry)) (now (marks .entry)) r (now (places .exit)) (now (keys .exit)) (now (marks .exit)) ⌝ }
 {
-    let n = t.count;
     if tag == 1 {
         if n < 512 {
-            let mut u = t;
-            u.at[n] = at;
-            u.count = n + 1;
-            return u;
+            places[n] = at;
+            keys[n] = k;
+            let mark = slot(k);
+            marks[mark] = 1;
+            return n + 1;
         }
     }
-    t
+    n
 }
 
 // ---- a field
 
 // Where the payload ends, judged from its front.
-fn payload_end(img: &[u8], t: Names, p: &[u8], names: u64, tag: u64) -> Skip
-    requires { ⌜ t .count ≤ 512 ⌝ }
-    ensures { λ r. ⌜ r ≡ as-skip (payload names (names-of (now (img .entry)) t) tag (now (p .entry)) 0) ⌝ }
+fn payload_end(
+    img: &[u8],
+    places: &[usize],
+    keys: &[u64],
+    marks: &[u8],
+    n: usize,
+    p: &[u8],
+    k: u64,
+    names: u64,
+    tag: u64,
+) -> Skip
+    requires { ⌜ Keyed (now img) (now places) (now keys) n × Marked (now keys) (now marks) n × (tag ≡ 1 → k ≡ keyOf (now p)) ⌝ }
+    ensures { λ r. ⌜ r ≡ as-skip (payload names (names-of (now (img .entry)) (tabled (now (places .entry)) n)) tag (now (p .entry)) 0) ⌝ }
 {
     if tag == 1 {
-        if fresh_name(img, t, p) {
+        if fresh_name(img, places, keys, marks, n, p, k) {
             return Skip::Next(p.len());
         }
         return Skip::No(6);
@@ -380,9 +481,18 @@ fn payload_end(img: &[u8], t: Names, p: &[u8], names: u64, tag: u64) -> Skip
 }
 
 // The place after the field at a place: header, tag, payload there, limit, items, nothing left over.
-fn field_end(img: &[u8], at: usize, c: Counts, t: Names) -> Skip
-    requires { ⌜ t .count ≤ 512 ⌝ }
-    ensures { λ r. ⌜ r ≡ as-skip (field c (names-of (now (img .entry)) t) (now (img .entry)) at) ⌝ }
+fn field_end(
+    img: &[u8],
+    at: usize,
+    c: Counts,
+    places: &[usize],
+    keys: &[u64],
+    marks: &[u8],
+    n: usize,
+    k: u64,
+) -> Skip
+    requires { ⌜ Keyed (now img) (now places) (now keys) n × Marked (now keys) (now marks) n × (k ≡ keyAt (now img) at) ⌝ }
+    ensures { λ r. ⌜ r ≡ as-skip (field c (names-of (now (img .entry)) (tabled (now (places .entry)) n)) (now (img .entry)) at) ⌝ }
 {
     if left(img, at) < 3 {
         return Skip::No(3);
@@ -395,7 +505,7 @@ fn field_end(img: &[u8], at: usize, c: Counts, t: Names) -> Skip
         }
         if within_tag(c, tag) {
             let p = load(img, at);
-            return match payload_end(img, t, p, c.names, tag) {
+            return match payload_end(img, places, keys, marks, n, p, k, c.names, tag) {
                 Skip::No(k) => Skip::No(k),
                 Skip::Next(m) => {
                     if m == p.len() {
@@ -468,24 +578,27 @@ pub fn read_image(img: &[u8]) -> Image
         body: false,
         begun: false,
     };
-    let mut t = Names {
-        at: [0; 512],
-        count: 0,
-    };
+    let mut places: [usize; 512] = [0; 512];
+    let mut keys: [u64; 512] = [0; 512];
+    let mut marks = [0u8; 8192];
+    let mut n: usize = 0;
     let mut at = 0;
     while at < img.len() {
-        match field_end(img, at, c, t) {
-            Skip::No(k) => {
-                return refused(wide(k), at);
-            }
+        let k = field_key(img, at);
+        match field_end(img, at, c, &places, &keys, &marks, n, k) {
+            Skip::No(number) => return refused(wide(number), at),
             Skip::Next(m) => {
                 let tag = byte_at(img, at);
                 let p = load(img, at);
                 c = next_counts(c, tag, p);
-                t = noted(t, tag, at);
+                n = noted(&mut places, &mut keys, &mut marks, n, tag, at, k);
                 at = m;
             }
         }
     }
+    let t = Names {
+        at: places,
+        count: n,
+    };
     closed(c, t, at)
 }

@@ -20,21 +20,21 @@ pub fn wide(b: u8) -> u64
     b as u64
 }
 
-fn get2(s: &[u8], at: usize) -> u64
+pub fn get2(s: &[u8], at: usize) -> u64
     requires { ⌜ at + 2 ≤ length (now s) ⌝ }
     ensures { λ r. ⌜ (r ≡ le2 (now (s .entry)) at) × (r < 65536) ⌝ }
 {
     wide(s[at]) + 256 * wide(s[at + 1])
 }
 
-fn get4(s: &[u8], at: usize) -> u64
+pub fn get4(s: &[u8], at: usize) -> u64
     requires { ⌜ at + 4 ≤ length (now s) ⌝ }
     ensures { λ r. ⌜ (r ≡ le4 (now (s .entry)) at) × (r < 4294967296) ⌝ }
 {
     get2(s, at) + 65536 * get2(s, at + 2)
 }
 
-fn get8(s: &[u8], at: usize) -> u64
+pub fn get8(s: &[u8], at: usize) -> u64
     requires { ⌜ at + 8 ≤ length (now s) ⌝ }
     ensures { λ r. ⌜ r ≡ le8 (now (s .entry)) at ⌝ }
 {
@@ -75,7 +75,11 @@ pub fn two_at(s: &[u8], at: usize) -> u64
 pub fn four_at(s: &[u8], at: usize) -> u64
     ensures { λ r. ⌜ (r ≡ le4 (now (s .entry)) at) × (r < 4294967296) ⌝ }
 {
-    if left(s, at) < 3 {
+    let here = left(s, at);
+    if 4 <= here {
+        return get4(s, at);
+    }
+    if here < 3 {
         return two_at(s, at);
     }
     two_at(s, at) + 65536 * two_at(s, at + 2)
@@ -84,7 +88,11 @@ pub fn four_at(s: &[u8], at: usize) -> u64
 pub fn eight_at(s: &[u8], at: usize) -> u64
     ensures { λ r. ⌜ r ≡ le8 (now (s .entry)) at ⌝ }
 {
-    if left(s, at) < 5 {
+    let here = left(s, at);
+    if 8 <= here {
+        return get8(s, at);
+    }
+    if here < 5 {
         return four_at(s, at);
     }
     four_at(s, at) + 4294967296 * four_at(s, at + 4)

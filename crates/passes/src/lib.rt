@@ -38,8 +38,8 @@ use views::operand;
 // What one field does to a pass: the place after it, whether a body is open then, and the counts.
 pub struct Step {
     pub next: usize,
-    pub inside: bool,
     pub sink: Sink,
+    pub inside: bool,
 }
 
 // Is a body open after a field?

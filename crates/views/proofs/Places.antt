@@ -1,5 +1,5 @@
 -- Reading at a place that stopped at the end.
-use Prim.Native.Nat.{ℕ, _+_, _-_, _*_, _<_, _≤_, min}
+use Prim.Native.Nat.{ℕ, _+_, _-_, _*_, _%_, _<_, _≤_, min}
 use native.Mathlib.Omega.{arith}
 use native.Mathlib.Decide.{decLe}
 use mathlib.Core.Path.{_≡_, refl, sym, ap, _∙_}
@@ -48,6 +48,11 @@ pub operand-made : (s : List ℕ) (at r₄ r₆ r₇ x y w : ℕ) (z : Bool) →
 unfolding operandIn
 operand-made s at r₄ r₆ r₇ x y w z e₄ e₆ e₇ ex ey ez ew =
     rw (ex .0, ey .0, ez, ew, two-step s at 4 r₄ e₄, byte-step s at 6 r₆ e₆, eight-step s at 7 r₇ e₇) refl
+
+pub operand-whole : (s : List ℕ) (at x y w : ℕ) (z : Bool) → (x ≡ le4 s at) × (x < 4294967296) → (y ≡ le2 s (at + 4)) × (y < 65536) → z ≡ eqb (getD s (at + 6) 0) 1
+    → w ≡ le8 s (at + 7) → record { span = x; name = y % 512; indexed = z; index = w } ≡ operandIn s at
+unfolding operandIn
+operand-whole s at x y w z ex ey ez ew = rw (ex .0, ey .0, ez, ew) refl
 
 -- the payload
 pub load-none : (img : List ℕ) (at : ℕ) → length img - at < 3 → [] ≡ load-at img at

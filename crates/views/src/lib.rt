@@ -9,6 +9,9 @@ use items::along;
 use items::byte_at;
 use items::eight_at;
 use items::four_at;
+use items::get2;
+use items::get4;
+use items::get8;
 use items::left;
 use items::two_at;
 use rules::Operand;
@@ -29,6 +32,14 @@ pub fn is_one(s: &[u8], at: usize) -> bool
 pub fn operand(s: &[u8], at: usize) -> Operand
     ensures { λ r. ⌜ r ≡ operandIn (now (s .entry)) at ⌝ }
 {
+    if 15 <= left(s, at) {
+        return Operand {
+            span: get4(s, at),
+            name: get2(s, at + 4) % 512,
+            indexed: is_one(s, at + 6),
+            index: get8(s, at + 7),
+        };
+    }
     Operand {
         span: four_at(s, at),
         name: name(s, along(s, at, 4)),

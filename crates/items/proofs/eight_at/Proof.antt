@@ -9,6 +9,8 @@ eight-at-spec =
     (tie.spec
     (λ c κs. search needs)
     (λ c κs. search needs)
+    (λ c. search needs)
+    (λ c κs. search needs)
     (λ c. search short-8)
     (λ c κs. search needs)
     (λ c. search needs)

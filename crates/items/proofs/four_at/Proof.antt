@@ -9,6 +9,8 @@ four-at-spec =
     (tie.spec
     (λ c κs. search needs)
     (λ c κs. search needs)
+    (λ c. search needs)
+    (λ c κs. search needs)
     (λ c. (search short-4, search needs))
     (λ c κs. search needs)
     (λ c. search needs)
