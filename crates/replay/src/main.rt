@@ -1,9 +1,15 @@
 // The program: the list of the Rust's answers on standard input, one case a line: an image in hex, the error fields up to recursion in hex
 // (`-` for none) and the number of recursion groups. It checks each image and tells how many cases there are and how many agree.
-ghost use Prim.Native.Nat.{_<_, _≤_};
+ghost use mathlib.Core.Path.{_≡_};
+ghost use Prim.Native.Nat.{_<_};
+ghost use lib.ListN.{getD};
+ghost use Rattle.views.specs.View.{nextIn};
 use checks::check;
 use libc::STDOUT_FILENO;
 use rules::Answer;
+use walker::front;
+use walker::next;
+use walker::tag;
 
 // The byte at a place, 0 past the end.
 fn at(s: &[u8], i: usize) -> u8 {
@@ -123,33 +129,35 @@ fn same_start(a: &[u8], b: &[u8], n: usize) -> bool {
     true
 }
 
-// The place after the field at a place.
-fn after_field(out: &[u8], p: usize, to: usize) -> usize
-    requires { ⌜ (p < to) × (to ≤ 100000) ⌝ }
-    ensures { λ r. ⌜ p < r ⌝ }
+// The kind of the first error field: error fields are headed as an image's fields are, so the image's reader reads them.
+fn kind(fields: &[u8]) -> u64
+    ensures { λ r. ⌜ r ≡ getD (now (fields .entry)) 0 0 ⌝ }
 {
-    let low = size(at(out, p + 1));
-    let high = size(at(out, p + 2));
-    if low < 256 {
-        if high < 256 {
-            return p + 3 + low + high * 256;
-        }
-    }
-    to
+    tag(front(fields))
+}
+
+// The place after it.
+fn behind(fields: &[u8]) -> usize
+    ensures { λ r. ⌜ r ≡ nextIn (now (fields .entry)) 0 ⌝ }
+{
+    let r = next(front(fields));
+    r.at
 }
 
 // Whether between two places stand just so many fields of recursion.
 fn recursions(out: &[u8], from: usize, to: usize, groups: usize) -> bool {
-    if 100000 < to {
+    if out.len() < to {
         return false;
     }
     let mut p = from;
     let mut n = 0;
     while p < to {
-        if at(out, p) != 4 {
+        // what is read goes on behind `to`, so that a last field that is too long is seen
+        let rest = &out[p..];
+        if kind(rest) != 4 {
             return false;
         }
-        p = after_field(out, p, to);
+        p += behind(rest);
         n = step(n, 100000);
     }
     p == to && n == groups
