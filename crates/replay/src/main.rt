@@ -1,115 +1,19 @@
 // The program: the list of the Rust's answers on standard input, one case a line: an image in hex, the error fields up to recursion in hex
 // (`-` for none) and the number of recursion groups. It checks each image and tells how many cases there are and how many agree.
-ghost use Prim.Native.Nat.{_<_, _≤_};
+ghost use mathlib.Core.Path.{_≡_};
+ghost use lib.ListN.{getD};
+ghost use Rattle.views.specs.View.{nextIn};
 use checks::check;
 use libc::STDOUT_FILENO;
 use rules::Answer;
-
-// The byte at a place, 0 past the end.
-fn at(s: &[u8], i: usize) -> u8 {
-    if i < s.len() { s[i] } else { 0 }
-}
-
-// Puts a byte at a place that there is.
-fn store(s: &mut [u8], i: usize, b: u8) {
-    if i < s.len() {
-        s[i] = b;
-    }
-}
-
-// One more, but never more than `most`.
-fn step(i: usize, most: usize) -> usize {
-    if i < most { i + 1 } else { most }
-}
-
-// The first place from `from` on where `b` stands, or `to` where there is none before it.
-fn until(s: &[u8], from: usize, to: usize, b: u8) -> usize {
-    let mut i = from;
-    while i < to {
-        if at(s, i) == b {
-            return i;
-        }
-        i += 1;
-    }
-    i
-}
-
-// The place after `end`, but never after `to`.
-fn after(p: usize, end: usize, to: usize) -> usize
-    requires { ⌜ p < to ⌝ }
-    ensures { λ r. ⌜ p < r ⌝ }
-{
-    if end < to {
-        if p <= end {
-            return end + 1;
-        }
-    }
-    to
-}
-
-fn size(b: u8) -> usize {
-    b as usize
-}
-
-// A number with one decimal digit more.
-fn pushed(n: usize, digit: u8) -> usize {
-    if n < 1000000 && b'0' <= digit && digit <= b'9' {
-        let d = size(digit - b'0');
-        if d < 10 {
-            return n * 10 + d;
-        }
-    }
-    n
-}
-
-// The decimal number between two places.
-fn number(s: &[u8], from: usize, to: usize) -> usize {
-    let mut n = 0;
-    let mut i = from;
-    while i < to {
-        n = pushed(n, at(s, i));
-        i += 1;
-    }
-    n
-}
-
-// The value of a hex digit.
-fn nibble(c: u8) -> u8 {
-    if b'0' <= c && c <= b'9' {
-        c - b'0'
-    } else if b'a' <= c && c <= b'f' {
-        c - b'a' + 10
-    } else {
-        0
-    }
-}
-
-// Two hex digits as a byte.
-fn joined(high: u8, low: u8) -> u8 {
-    nibble(high) % 16 * 16 + nibble(low) % 16
-}
-
-fn step_if(yes: bool, i: usize, most: usize) -> usize {
-    if yes { step(i, most) } else { i }
-}
-
-// Puts the bytes whose hex digits stand between two places into `out` from `n` on, and answers the place after them.
-fn unhex(s: &[u8], from: usize, to: usize, out: &mut [u8], n: usize) -> usize {
-    let mut m = n;
-    let mut odd = false;
-    let mut high = 0u8;
-    let mut i = from;
-    while i < to {
-        let c = at(s, i);
-        // after the first digit of a byte there is one there that is not yet right
-        store(out, m, joined(high, c));
-        m = step_if(odd, m, out.len());
-        high = c;
-        odd = !odd;
-        i += 1;
-    }
-    m
-}
+use texts::at;
+use texts::number;
+use texts::step;
+use texts::unhex;
+use texts::until;
+use walker::front;
+use walker::next;
+use walker::tag;
 
 // Whether two slices have the same first `n` bytes.
 fn same_start(a: &[u8], b: &[u8], n: usize) -> bool {
@@ -123,33 +27,35 @@ fn same_start(a: &[u8], b: &[u8], n: usize) -> bool {
     true
 }
 
-// The place after the field at a place.
-fn after_field(out: &[u8], p: usize, to: usize) -> usize
-    requires { ⌜ (p < to) × (to ≤ 100000) ⌝ }
-    ensures { λ r. ⌜ p < r ⌝ }
+// The kind of the first error field: error fields are headed as an image's fields are, so the image's reader reads them.
+fn kind(fields: &[u8]) -> u64
+    ensures { λ r. ⌜ r ≡ getD (now (fields .entry)) 0 0 ⌝ }
 {
-    let low = size(at(out, p + 1));
-    let high = size(at(out, p + 2));
-    if low < 256 {
-        if high < 256 {
-            return p + 3 + low + high * 256;
-        }
-    }
-    to
+    tag(front(fields))
+}
+
+// The place after it.
+fn behind(fields: &[u8]) -> usize
+    ensures { λ r. ⌜ r ≡ nextIn (now (fields .entry)) 0 ⌝ }
+{
+    let r = next(front(fields));
+    r.at
 }
 
 // Whether between two places stand just so many fields of recursion.
 fn recursions(out: &[u8], from: usize, to: usize, groups: usize) -> bool {
-    if 100000 < to {
+    if out.len() < to {
         return false;
     }
     let mut p = from;
     let mut n = 0;
     while p < to {
-        if at(out, p) != 4 {
+        // what is read goes on behind `to`, so that a last field that is too long is seen
+        let rest = &out[p..];
+        if kind(rest) != 4 {
             return false;
         }
-        p = after_field(out, p, to);
+        p += behind(rest);
         n = step(n, 100000);
     }
     p == to && n == groups
@@ -224,7 +130,7 @@ fn replay(s: &[u8]) {
             right = step(right, 1000000);
         }
         cases = step(cases, 1000000);
-        p = after(p, end, s.len());
+        p = step(end, s.len());
     }
     tell(cases, right);
 }

@@ -1,10 +1,11 @@
 use Prim.Native.Nat.{_≤_, _-_}
 use borrow.Author.Needs.{needs}
+use lib.ListN.{length}
 use Rattle.replay.proofs.recursions.Statement.{statement}
 use Rattle.replay.proofs.recursions.Tie as tie
 
 abbrev Inv-loop : tie.InvT-loop
-Inv-loop out from to groups p₀ n₀ p n = p₀ ≤ p
+Inv-loop out from to groups p₀ n₀ p n = to ≤ length out
 
 abbrev μ-loop : tie.MeasureT-loop
 μ-loop out from to groups p₀ n₀ p n = to - p
@@ -17,9 +18,13 @@ recursions-spec =
     μ-loop
     (λ c. search needs)
     (λ c. search needs)
+    (λ c. search needs)
+    (λ c. search needs)
+    (λ c. search needs)
     (λ c κs. search needs)
     (λ c. search needs)
     (λ c κs. search needs)
+    (λ c. search needs)
     (λ c κs. search needs)
     (λ c. search needs)
     (λ c. search needs)
