@@ -8,7 +8,8 @@ command -v python3 >/dev/null || { apt-get update -qq && apt-get install -y -qq 
 
 log=$(mktemp)
 trap 'rm -f "$log"' EXIT
-if ! rt ci >"$log" 2>&1; then
+# A check waits for files a good part of its time, so one more at a time than there are cores.
+if ! RT_JOBS=${RT_JOBS:-$(($(nproc) + 1))} rt ci >"$log" 2>&1; then
     tail -n 60 "$log"
     exit 1
 fi
