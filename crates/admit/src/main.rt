@@ -1,4 +1,6 @@
 // The program: an image on standard input; `accepted`, `errors` or `refused`, a number, and the error fields on standard output.
+#![tactic(auto)]
+
 use checks::check;
 use libc::STDOUT_FILENO;
 use rules::Answer;

@@ -1,4 +1,6 @@
 // The checks of single parts of a statement, after typing.rs: each tells its errors and goes on.
+#![tactic(auto)]
+
 ghost use Rattle.std.specs.Prelude.{◌≡◌, [], ◌∷◌, ◌++◌, map, Bool, true, false, not, ◌&&◌, ℕ, ◌+◌, ◌<◌, ◌≤◌, ◌^◌, length, get_or, eqb, ltb, leb};
 ghost use Rattle.std.specs.Bool.{beq};
 ghost use Rattle.rules.specs.Basics.{pick};

@@ -1,4 +1,6 @@
 // The calls of an image as a graph, the recursion errors, and the order of the gates.
+#![tactic(auto)]
+
 ghost use Rattle.std.specs.Prelude.{◌≡◌, List, [], ◌∷◌, ◌≤◌, ◌<◌, min, length, get_or, set, T, eqb};
 ghost use Rattle.rules.specs.Syntax.{Gate};
 ghost use Rattle.rules.specs.Errors.{recursive_definition, pair_bytes};

@@ -1,4 +1,6 @@
 // The check of an image: its errors told in 01's order, counted first and written second.
+#![tactic(auto)]
+
 ghost use Rattle.std.specs.Prelude.{◌≡◌, ◌++◌, ℕ, ◌+◌, ◌≤◌, length, take, drop};
 ghost use Rattle.checks.specs.Told.{Local, All};
 ghost use Rattle.checks.specs.Served.{Gives, Serves};

@@ -1,4 +1,6 @@
 // The declarations of an image collected into tables by name, after typing.rs: collect_decls and collect_regs.
+#![tactic(auto)]
+
 ghost use Rattle.std.specs.Prelude.{◌≡◌, [], ◌∷◌, ◌++◌, map, Bool, true, false, ℕ, ◌+◌, ◌*◌, ◌<◌, ◌≤◌, length, get_or, set, eqb};
 ghost use Rattle.rules.specs.Items.{le4};
 ghost use Rattle.rules.specs.Checking.{argument, latest, repeated, repeats, size_of, redeclared};

@@ -1,4 +1,6 @@
 // How many bits a program declares and where they begin, where its gates stand, and how many entries its run has: worked out without running it.
+#![tactic(auto)]
+
 ghost use Rattle.std.specs.Prelude.{◌≡◌, [], ◌∷◌, map, true, false, ◌+◌, ◌*◌, ◌<◌, ◌≤◌, min, get_or, set, eqb};
 ghost use Rattle.rules.specs.Basics.{pick};
 ghost use Rattle.rules.specs.Grouping.{stmts, decls};

@@ -1,4 +1,6 @@
 // The entries of a run, each written to a lent buffer as far as it fits and counted whole.
+#![tactic(auto)]
+
 ghost use Rattle.std.specs.Prelude.{[], ◌∷◌, ◌++◌, length};
 ghost use Rattle.rules.specs.Errors.{bytes4, tagged};
 ghost use Rattle.rules.specs.Run.{u_e, cx_e, measure_e, reset_e, barrier_e, barrier_end_e, opaque_e, if_e, if_end_e, bits_bytes, entry_field};

@@ -1,4 +1,6 @@
 // Expand, for a program that check finds no errors in: 9, then 10, then 11, and otherwise the run. A refused call changes no byte.
+#![tactic(auto)]
+
 ghost use Rattle.expand.specs.Expanding.{Answers, Lays, Counts};
 
 use counts::{count_gates, count_top, fill_places, fill_starts, total_bits};

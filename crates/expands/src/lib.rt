@@ -1,4 +1,6 @@
 // The service expand: the run of a program without errors, written as entries.
+#![tactic(auto)]
+
 ghost use Rattle.rules.specs.Answers.{expand_read, expand as expanded};
 ghost use Rattle.checks.specs.Served.{Gives, Serves};
 

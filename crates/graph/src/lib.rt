@@ -1,4 +1,6 @@
 // Groups, cycles and the order of a graph of calls.
+#![tactic(auto)]
+
 ghost use Rattle.std.specs.Prelude.{◌≡◌, ◌&&◌, [], ◌<◌, ◌≤◌, length, replicate, T, ltb};
 ghost use Rattle.rules.specs.Basics.{first};
 ghost use Rattle.rules.specs.Graph.{reaches, leaders as leaders_of, cycle as cycle_of};

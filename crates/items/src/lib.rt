@@ -1,4 +1,6 @@
 // The items of an image: what stands at a place of a list of bytes, and the place after it, or the number of the refusal.
+#![tactic(auto)]
+
 ghost use Rattle.std.specs.Prelude.{◌≡◌, ◌+◌, ◌-◌, ◌≤◌, ◌<◌, min, length, get_or};
 ghost use Rattle.rules.specs.Items.{a, an, as_skip, times, le2, le4, le8, byte, word2, word4, word8, span, name, flag, count, indexed, operand, named, opcode, leaf, expr};
 ghost use Rattle.items.specs.Ends.{after, past_num, past_opd, below_of};

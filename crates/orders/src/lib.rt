@@ -1,4 +1,6 @@
 // The service order: the gates of a program without errors, callees first, one byte each.
+#![tactic(auto)]
+
 ghost use Rattle.std.specs.Prelude.{◌≡◌, map, ℕ, ◌%◌, take};
 ghost use Rattle.output.specs.Bytes.{Wrote};
 ghost use Rattle.rules.specs.Answers.{order_read, order as ordered};

@@ -1,4 +1,6 @@
 // Fields written to a lent buffer as far as they fit, and counted whole: the same functions count first, over an empty buffer, and write second.
+#![tactic(auto)]
+
 ghost use Rattle.std.specs.Prelude.{◌≡◌, [], ◌∷◌, ◌++◌, ◌+◌, ◌<◌, ◌≤◌, length};
 ghost use Rattle.rules.specs.Errors.{bytes2, bytes4, bytes8, bit, operand_bytes, tagged, redefined_gate, redefined_argument, redefined_parameter, zero_size_register, redefined_register, undefined_parameter, invalid_comparison_size, wrong_argument_arity, wrong_parameter_arity, undefined_gate, wrong_operand_size, invalid_register_index, wrong_register_type, undefined_register};
 ghost use Rattle.output.specs.Bytes.{plus, Wrote};

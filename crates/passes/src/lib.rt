@@ -1,4 +1,6 @@
 // The passes over gate bodies and over the program, after typing.rs: check_gates and check_defs.
+#![tactic(auto)]
+
 ghost use Rattle.std.specs.Prelude.{◌≡◌, [], ◌∷◌, ◌++◌, map, Bool, true, false, ℕ, ◌+◌, ◌<◌, ◌≤◌, length, get_or, eqb};
 ghost use Rattle.rules.specs.Syntax.{Gate};
 ghost use Rattle.rules.specs.Grouping.{stmts, decls};

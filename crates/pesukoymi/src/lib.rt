@@ -1,4 +1,6 @@
 // The boundary: what a host calls. An answer goes as 24 bytes into a slice of the caller's: 01's table number, then the two values.
+#![tactic(auto)]
+
 ghost use Rattle.std.specs.Prelude.{◌≡◌};
 ghost use Rattle.rules.specs.Answers.{number, values, answer_bytes, check as checked, order as ordered, expand as expanded};
 ghost use Rattle.pesukoymi.specs.Boundary.{Called, Laid};

@@ -1,5 +1,7 @@
 // The program: the list of the Rust's answers on standard input, one case a line: an image in hex, the error fields up to recursion in hex
 // (`-` for none) and the number of recursion groups. It checks each image and tells how many cases there are and how many agree.
+#![tactic(auto)]
+
 ghost use Rattle.std.specs.Prelude.{◌≡◌, get_or};
 ghost use Rattle.views.specs.View.{next_in};
 

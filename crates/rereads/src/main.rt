@@ -1,5 +1,7 @@
 // The program: the reading's cases on standard input, one a line: an image in the short form of host/README.md, the number of its refusal
 // (0 where it is read) and the offset. It reads each image and tells how many cases there are and how many agree.
+#![tactic(auto)]
+
 use image::{Verdict, read_image};
 use libc::STDOUT_FILENO;
 use output::put1;

@@ -1,4 +1,5 @@
 // The types that the rules and the code share. There is no code here.
+#![tactic(auto)]
 
 // A register, or one bit of it: its name by number, and its index where it has one.
 #[derive(Drop)]

@@ -1,4 +1,6 @@
 // The run of a program that check finds no errors in, written as entries.
+#![tactic(auto)]
+
 ghost use Rattle.std.specs.Prelude.{◌≡◌, List, [], ◌∷◌, ◌++◌, map, true, false, ℕ, ◌+◌, ◌-◌, ◌<◌, eqb, length, get_or, take};
 ghost use Rattle.rules.specs.Basics.{pick};
 ghost use Rattle.rules.specs.Grouping.{stmt, decls};

@@ -1,4 +1,6 @@
 // Tables by name number: four words a name, 512 names.
+#![tactic(auto)]
+
 ghost use Rattle.std.specs.Prelude.{◌≡◌, ◌+◌, ◌*◌, ◌<◌, length, get_or, set, eqb, [], ◌∷◌};
 ghost use Rattle.tables.specs.Tables.{word, gate_in, reg_in, param_in, row_set, param_set};
 

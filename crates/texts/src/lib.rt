@@ -1,4 +1,6 @@
 // What the programs that run a list again read its lines with: places, numbers and bytes in hex. Any text is read: a byte past the end counts as 0.
+#![tactic(auto)]
+
 ghost use Rattle.std.specs.Prelude.{◌≡◌, ◌+◌, ◌-◌, ◌≤◌, ◌<◌, min, get_or};
 ghost use Rattle.output.specs.Bytes.{Wrote};
 ghost use Rattle.texts.specs.Text.{place_of, push, number_in, nibble_of, byte_of, hex_in};

@@ -1,4 +1,6 @@
 // Statements, after typing.rs: check_stmt.
+#![tactic(auto)]
+
 ghost use Rattle.std.specs.Prelude.{◌≡◌, [], ◌∷◌, ◌++◌, Bool, true, false, ℕ, ◌+◌, ◌<◌, ◌≤◌, length, get_or, eqb};
 ghost use Rattle.rules.specs.Basics.{pick};
 ghost use Rattle.rules.specs.Items.{le4};

@@ -1,4 +1,6 @@
 // What stands at a place of an image that was read, read again: total functions, a byte past the end counting as 0.
+#![tactic(auto)]
+
 ghost use Rattle.std.specs.Prelude.{◌≡◌, ◌+◌, ◌-◌, ◌<◌, length, get_or, take, drop, eqb};
 ghost use Rattle.rules.specs.Reading.{load_at};
 ghost use Rattle.views.specs.View.{name_in, operand_in, next_in};

@@ -1,5 +1,7 @@
 // A reader of an image: it keeps the lent image and the place where it stands, and goes from field to field. Each function takes the reader apart
 // and leaves the work to a covered one on the bytes and the place, so any bytes are read: one past the end counts as 0, and no place runs beyond it.
+#![tactic(auto)]
+
 ghost use Rattle.std.specs.Prelude.{◌≡◌, length, get_or, ltb};
 ghost use Rattle.rules.specs.Reading.{load_at};
 ghost use Rattle.views.specs.View.{next_in};

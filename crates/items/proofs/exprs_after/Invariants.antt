@@ -1,0 +1,13 @@
+-- The loop's invariant: what is left to read from here ends where all of it does.
+use borrow.Author.Rules.{rules}
+use Prim.Native.Nat.{◌≤◌, ◌-◌}
+use mathlib.Core.Path.{◌≡◌}
+use Rattle.rules.specs.Items.{times, expr}
+use Rattle.items.specs.Ends.{after, times_start, times_turn, times_end}
+use Rattle.items.proofs.exprs_after.Given as goal
+
+abbrev pub invariant-loop-i : goal.invariant-loop-i
+invariant-loop-i l = (l.i ≤ l.count) × (after (times (l.count - l.i) (expr l.names 64)) l.p l.r ≡ after (times l.count (expr l.names 64)) l.p l.initial.r)
+
+abbrev pub decreases-loop-i : goal.decreases-loop-i
+decreases-loop-i l = l.count - l.i

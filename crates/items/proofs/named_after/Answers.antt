@@ -1,0 +1,6 @@
+use borrow.Author.Rules.{rules}
+use Rattle.items.specs.Ends.{named_ends}
+use Rattle.items.proofs.named_after.Goals as goal
+
+pub returns : goal.returns
+returns c = simp named_ends (cc)

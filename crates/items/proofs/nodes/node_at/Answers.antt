@@ -1,0 +1,6 @@
+use borrow.Author.Rules.{rules}
+use Rattle.items.proofs.NodeLaws.{node_cut}
+use Rattle.items.proofs.nodes.node_at.Goals as goal
+
+pub returns : goal.returns
+returns c = search node_cut

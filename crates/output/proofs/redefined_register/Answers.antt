@@ -1,0 +1,35 @@
+use borrow.Author.Rules.{rules}
+use mathlib.Core.Path.{refl}
+use Rattle.output.specs.Bytes.{wrote_4}
+use Rattle.rules.specs.Errors.{error_field}
+use Rattle.output.specs.Sinks.{said_as}
+use Rattle.output.proofs.redefined_register.Goals as goal
+
+pub put_head-a-requires : goal.put_head-a-requires
+unfolding error_field
+put_head-a-requires c = search rules
+
+pub put_operand-b-requires : goal.put_operand-b-requires
+unfolding error_field
+put_operand-b-requires c = search rules
+
+pub put4-c-requires : goal.put4-c-requires
+unfolding error_field
+put4-c-requires c = search rules
+
+pub put4-at-requires : goal.put4-at-requires
+unfolding error_field
+put4-at-requires c = search rules
+
+pub one_more-requires : goal.one_more-requires
+unfolding error_field
+one_more-requires c = search rules
+
+pub shape_of-out : goal.shape_of-out
+unfolding error_field
+shape_of-out c = search rules
+
+pub returns : goal.returns
+unfolding error_field
+returns c =
+    said_as _ (wrote_4 c.put_head-a.ensures c.put_operand-b.ensures c.put4-c.ensures c.put4-at.ensures refl) c.one_more.ensures
