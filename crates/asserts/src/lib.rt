@@ -22,7 +22,7 @@ use views::operand;
 // ---- operands
 
 // A size, or none after an error.
-#[derive(Drop)]
+#[derive(Clone, Copy)]
 pub enum Size {
     Known(u64),
     Unknown,
@@ -154,7 +154,7 @@ fn differ(out: &mut [u8], s: Sink, m: Match, n: u64, span: u64, stmt: u64) -> Si
     output::wrong_operand_size(out, s, stmt, span, n, m.span, m.size)
 }
 
-#[derive(Drop)]
+#[derive(Clone, Copy)]
 pub struct Matched {
     pub fixed: Match,
     pub sink: Sink,
@@ -337,7 +337,7 @@ pub fn assert_scalar_size(
 // ---- expressions
 
 // What a walk over nodes leaves: the place after them, and the counts.
-#[derive(Drop)]
+#[derive(Clone, Copy)]
 pub struct Walked {
     pub at: usize,
     pub sink: Sink,

@@ -93,7 +93,7 @@ fn link_call(
 }
 
 // Where a walk over the fields stands: in a body or not, and whose body it is.
-#[derive(Drop)]
+#[derive(Clone, Copy)]
 struct Place {
     from: usize,
     inside: bool,

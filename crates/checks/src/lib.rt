@@ -13,7 +13,7 @@ use output::Sink;
 use passes::{check_defs, check_gates};
 use rules::Answer;
 
-#[derive(Drop)]
+#[derive(Clone, Copy)]
 pub struct Judged {
     pub gates: Gates,
     pub sink: Sink,

@@ -72,7 +72,7 @@ pub struct Regs {
 }
 
 // What one field does to a collection: the place after it, whether a body is open then, the rows so far, and the counts.
-#[derive(Drop)]
+#[derive(Clone, Copy)]
 pub struct Turn {
     pub next: usize,
     pub count: usize,
@@ -284,7 +284,7 @@ fn header_step(
     }
 }
 
-#[derive(Drop)]
+#[derive(Clone, Copy)]
 pub struct Counted {
     pub count: usize,
     pub sink: Sink,

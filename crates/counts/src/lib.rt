@@ -335,7 +335,7 @@ pub fn total_bits(img: &[u8], classical: bool) -> u64
 }
 
 // How many bits of each kind stand before a place.
-#[derive(Drop)]
+#[derive(Clone, Copy)]
 pub struct Ends {
     pub quantum: u64,
     pub classical: u64,

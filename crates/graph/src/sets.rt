@@ -3,7 +3,7 @@ ghost use Rattle.std.specs.Prelude.{◌≡◌, ◌&&◌, ◌||◌, not, ℕ, ◌
 ghost use Rattle.rules.specs.Basics.{any};
 ghost use Rattle.graph.specs.Sets.{digit, holds};
 
-#[derive(Drop)]
+#[derive(Clone, Copy)]
 pub struct Set {
     pub low: u64,
     pub high: u64,

@@ -24,7 +24,7 @@ pub struct Names {
 }
 
 // What becomes of an image: it is read, or refused with a number and the offset of the field at fault.
-#[derive(Drop)]
+#[derive(Clone, Copy)]
 pub enum Verdict {
     Read,
     Refused { number: u64, offset: usize },

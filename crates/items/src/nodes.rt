@@ -6,7 +6,7 @@ ghost use Rattle.items.specs.Node.{operator, node_of, node_at, node_length, node
 
 use crate::{along, byte_at, eight_at, four_at, two_at};
 
-#[derive(Drop)]
+#[derive(Clone, Copy)]
 pub enum Node {
     Pi,
     Real(f32),

@@ -8,7 +8,7 @@ ghost use Rattle.output.specs.Sinks.{Said};
 
 use rules::Operand;
 
-#[derive(Drop)]
+#[derive(Clone, Copy)]
 pub struct Sink {
     pub items: usize,
     pub bytes: usize,

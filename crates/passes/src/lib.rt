@@ -19,7 +19,7 @@ use typing::{Checked, check_stmt, is_stmt};
 use views::{is_one, load, name, next, operand};
 
 // What one field does to a pass: the place after it, whether a body is open then, and the counts.
-#[derive(Drop)]
+#[derive(Clone, Copy)]
 pub struct Step {
     pub next: usize,
     pub sink: Sink,

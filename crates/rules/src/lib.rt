@@ -2,7 +2,7 @@
 #![tactic(auto)]
 
 // A register, or one bit of it: its name by number, and its index where it has one.
-#[derive(Drop)]
+#[derive(Clone, Copy)]
 pub struct Operand {
     pub span: u64,
     pub name: u64,
@@ -11,21 +11,21 @@ pub struct Operand {
 }
 
 // A number that was read and the place after it, or the number of a refusal.
-#[derive(Drop)]
+#[derive(Clone, Copy)]
 pub enum Num {
     No(u8),
     Got(u64, usize),
 }
 
 // An operand that was read and the place after it, or the number of a refusal.
-#[derive(Drop)]
+#[derive(Clone, Copy)]
 pub enum Opd {
     No(u8),
     Got(Operand, usize),
 }
 
 // The place after something that was read, or the number of a refusal.
-#[derive(Drop)]
+#[derive(Clone, Copy)]
 pub enum Skip {
     No(u8),
     Next(usize),
@@ -33,7 +33,7 @@ pub enum Skip {
 
 // What the fields before a place leave: the counts of names, gate definitions and registers, of the IFs right before the place,
 // whether a body is open, and whether a field that is no NAME was met.
-#[derive(Drop)]
+#[derive(Clone, Copy)]
 pub struct Counts {
     pub names: u64,
     pub gates: u64,
@@ -44,7 +44,7 @@ pub struct Counts {
 }
 
 // The first entry of a gate's name: its number, its counts of parameters and arguments, and its declaration span.
-#[derive(Drop)]
+#[derive(Clone, Copy)]
 pub struct Header {
     pub number: u64,
     pub params: u64,
@@ -52,14 +52,14 @@ pub struct Header {
     pub decl: u64,
 }
 
-#[derive(Drop)]
+#[derive(Clone, Copy)]
 pub enum FoundGate {
     Known(Header),
     Unknown,
 }
 
 // What a name stands for where a statement stands: a register, or an argument of a gate.
-#[derive(Drop)]
+#[derive(Clone, Copy)]
 pub struct Reg {
     pub name: u64,
     pub span: u64,
@@ -67,21 +67,21 @@ pub struct Reg {
     pub size: u64,
 }
 
-#[derive(Drop)]
+#[derive(Clone, Copy)]
 pub enum Found {
     Row(Reg),
     Nothing,
 }
 
 // What matching has fixed: a size and its span; size 1 where nothing is yet.
-#[derive(Drop)]
+#[derive(Clone, Copy)]
 pub struct Match {
     pub size: u64,
     pub span: u64,
 }
 
 // What a service answers. `specs/Answers.antt` gives the table's number and the two values of each.
-#[derive(Drop)]
+#[derive(Clone, Copy)]
 pub enum Answer {
     Done { items: usize, bytes: usize },
     Errors { errors: usize, bytes: usize },

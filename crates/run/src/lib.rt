@@ -83,7 +83,7 @@ fn lane(start: u64, n: u64, j: u64) -> u64
 
 // ---- entries of one and of two bits, turn by turn
 
-#[derive(Drop)]
+#[derive(Clone, Copy)]
 pub enum Kind {
     U,
     Reset,
@@ -265,7 +265,7 @@ fn lanes(
 }
 
 // The gate that a call walks, if there is anything to walk.
-#[derive(Drop)]
+#[derive(Clone, Copy)]
 pub enum Step {
     Walk(u64),
     Skip,
@@ -388,7 +388,7 @@ fn run_call(
 }
 
 // What a statement at a place leaves: the place after it, and the counts.
-#[derive(Drop)]
+#[derive(Clone, Copy)]
 pub struct Ran {
     pub next: usize,
     pub sink: Sink,
@@ -455,7 +455,7 @@ fn run_stmt(
 }
 
 // What one field does to the walk: the place after it, whether a body is open then, and the counts.
-#[derive(Drop)]
+#[derive(Clone, Copy)]
 pub struct Turn {
     pub next: usize,
     pub inside: bool,

@@ -97,7 +97,7 @@ fn check_plain(out: &mut [u8], s: Sink, tag: u64, p: &[u8], gates: &[u64], regs:
     check_call(out, s, p, gates, regs)
 }
 
-#[derive(Drop)]
+#[derive(Clone, Copy)]
 pub struct Checked {
     pub next: usize,
     pub sink: Sink,

@@ -6,7 +6,7 @@ ghost use Rattle.std.specs.Prelude.{◌≡◌, length, get_or, ltb};
 ghost use Rattle.rules.specs.Reading.{load_at};
 ghost use Rattle.views.specs.View.{next_in};
 
-#[derive(Drop)]
+#[derive(Clone, Copy)]
 pub struct Reader<'a> {
     pub image: &'a [u8],
     pub at: usize,

@@ -1,0 +1,42 @@
+use borrow.Author.Rules.{rules}
+use Prim.Native.Nat.{ℕ, ◌≤◌, ◌-◌}
+use mathlib.Core.Logic.{⊎_elim}
+use mathlib.Core.Path.{◌∙◌}
+use mathlib.Core.Bool.{Bool}
+use native.Mathlib.Omega.{arith}
+use Rattle.graph.specs.Rows.{Reached}
+use Rattle.graph.proofs.Groups.{Leading, leading_none, leading_yes, leading_no, leading_all, leads_same}
+use Rattle.graph.proofs.leaders.Goals as goal
+
+pub loop-u-init : goal.loop-u-init
+loop-u-init c = (search rules, λ E R. leading_none _ _ _ (search rules))
+
+pub leads-requires : goal.leads-requires
+leads-requires c = omega (arith, c.if-n-le128.true)
+
+pub offset_bounds-list-m : goal.offset_bounds-list-m
+offset_bounds-list-m c = omega (arith, c.if-n-le128.true, ((c.loop-u.invariant.1) _ (c.closed-t.ensures)).few)
+
+pub bounds-list-m : goal.bounds-list-m
+bounds-list-m c = omega (arith, c.if-n-le128.true, ((c.loop-u.invariant.1) _ (c.closed-t.ensures)).few)
+
+pub overflow_add-m : goal.overflow_add-m
+overflow_add-m c = omega (arith, c.if-n-le128.true, ((c.loop-u.invariant.1) _ (c.closed-t.ensures)).few)
+
+pub loop-u-preserved : goal.loop-u-preserved
+loop-u-preserved c =
+    (
+        search rules,
+        λ E R.
+        let same = (c.leads.ensures) ∙ leads_same _ E _ R _ (c.loop-u-test.true) in
+        ⊎_elim
+        (λ w. rw (w.1, w.2) (leading_yes _ E _ _ _ (c.loop-u-test.true) ((c.loop-u.invariant.1) E R) _ same w.0.taken (c.if-n-le128.true)))
+        (λ w. rw (w.1, w.2) (leading_no _ E _ _ _ (c.loop-u-test.true) ((c.loop-u.invariant.1) E R) _ same w.0.left))
+        c.if-leads.branch,
+        )
+
+pub returns-after-loop-u : goal.returns-after-loop-u
+returns-after-loop-u c = λ h. leading_all _ _ _ _ _ (c.loop-u-test.false) ((c.loop-u.invariant.1) _ (c.closed-t.ensures))
+
+pub returns-else-n-le128 : goal.returns-else-n-le128
+returns-else-n-le128 c = λ h. absurd (omega (arith, c.if-n-le128.false))

@@ -1,0 +1,27 @@
+use borrow.Author.Rules.{rules}
+use Prim.Native.Nat.{ℕ, ◌≤◌, ◌<◌, ◌-◌}
+use native.Mathlib.Nat.{not-suc-le-zero}
+use mathlib.Core.Logic.{⊎_elim}
+use lib.Dec.{T}
+use Rattle.graph.proofs.Ways.{next, next_far, next_apart, next_found, next_none}
+use Rattle.graph.proofs.next_gate.Goals as goal
+
+pub loop-w-init : goal.loop-w-init
+loop-w-init c = (search rules, λ b j h. absurd (not-suc-le-zero h))
+
+pub returns-then-calls : goal.returns-then-calls
+returns-then-calls c =
+    λ b. next_found _ _ _ _ _ _ (c.loop-w-test.true) ((c.loop-w.invariant.1) b) _ (c.calls.ensures) c.requires c.if-calls.true (c.if-d-w.true) b
+
+pub loop-w-preserved : goal.loop-w-preserved
+loop-w-preserved c =
+    (
+        search rules,
+        ⊎_elim
+        (λ w b. next_apart _ _ _ _ _ _ (c.loop-w-test.true) ((c.loop-w.invariant.1) b) _ w.1.ensures (c.requires) w.2.left b)
+        (λ w b. next_far _ _ _ _ _ _ (c.loop-w-test.true) ((c.loop-w.invariant.1) b) w.left)
+        c.if-d-w.branch,
+        )
+
+pub returns : goal.returns
+returns c = λ b. next_none _ _ _ _ _ _ c.loop-w-test.false ((c.loop-w.invariant.1) b)

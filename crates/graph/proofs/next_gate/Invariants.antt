@@ -1,0 +1,14 @@
+use borrow.Author.Rules.{rules}
+use Prim.Native.Nat.{ℕ, ◌≤◌, ◌<◌, ◌-◌}
+use native.Mathlib.Nat.{not-suc-le-zero}
+use mathlib.Core.Logic.{⊎_elim}
+use lib.Dec.{T}
+use Rattle.graph.proofs.Ways.{next, next_far, next_apart, next_found, next_none}
+use Rattle.graph.proofs.next_gate.Given as goal
+
+abbrev pub invariant-loop-w : goal.invariant-loop-w
+invariant-loop-w l =
+    (l.w ≤ l.n) × (l.u < l.n → (j : ℕ) → j < l.w → T (next l.n l.t l.d l.u l.k j) → ⊥)
+
+abbrev pub decreases-loop-w : goal.decreases-loop-w
+decreases-loop-w l = l.n - l.w

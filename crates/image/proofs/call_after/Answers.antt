@@ -1,0 +1,6 @@
+use borrow.Author.Rules.{rules}
+use Rattle.image.proofs.Payloads.{call_ends}
+use Rattle.image.proofs.call_after.Goals as goal
+
+pub returns : goal.returns
+returns c = simp call_ends (cc)

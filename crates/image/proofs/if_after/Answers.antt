@@ -1,0 +1,6 @@
+use borrow.Author.Rules.{rules}
+use Rattle.image.proofs.Payloads.{if_ends}
+use Rattle.image.proofs.if_after.Goals as goal
+
+pub returns : goal.returns
+returns c = simp if_ends (cc)

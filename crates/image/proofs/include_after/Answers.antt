@@ -1,0 +1,6 @@
+use borrow.Author.Rules.{rules}
+use Rattle.image.proofs.Payloads.{include_ends}
+use Rattle.image.proofs.include_after.Goals as goal
+
+pub returns : goal.returns
+returns c = simp include_ends (cc)

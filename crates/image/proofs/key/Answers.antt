@@ -1,0 +1,15 @@
+use borrow.Author.Rules.{rules}
+use Prim.Native.Nat.{◌<◌}
+use mathlib.Core.Path.{◌≡◌}
+use Rattle.image.specs.Table.{folded, key_of}
+use Rattle.image.proofs.Keys.{folded_start, folded_turn, folded_end}
+use Rattle.image.proofs.key.Goals as goal
+
+pub loop-more-init : goal.loop-more-init
+loop-more-init c = search (rules, folded_start)
+
+pub loop-more-preserved : goal.loop-more-preserved
+loop-more-preserved c = (search rules, search rules, search folded_turn)
+
+pub returns : goal.returns
+returns c = search folded_end

@@ -1,0 +1,6 @@
+use borrow.Author.Rules.{rules}
+use Rattle.image.proofs.Tags.{next_is}
+use Rattle.image.proofs.next_counts.Goals as goal
+
+pub returns : goal.returns
+returns c = search next_is
