@@ -1,12 +1,12 @@
 use borrow.Author.Rules.{rules}
 use Prim.Native.Nat.{ℕ, ◌≤◌, ◌-◌}
-use mathlib.Core.Logic.{⊎_elim}
 use mathlib.Core.Path.{◌∙◌}
 use mathlib.Core.Bool.{Bool}
 use native.Mathlib.Omega.{arith}
 use Rattle.graph.specs.Rows.{Reached}
 use Rattle.graph.proofs.Groups.{Leading, leading_none, leading_yes, leading_no, leading_all, leads_same}
 use Rattle.graph.proofs.leaders.Goals as goal
+use Rattle.graph.proofs.leaders.Goals.{then-leads, else-leads}
 
 pub loop-u-init : goal.loop-u-init
 loop-u-init c = (search rules, λ E R. leading_none _ _ _ (search rules))
@@ -29,10 +29,10 @@ loop-u-preserved c =
         search rules,
         λ E R.
         let same = (c.leads.ensures) ∙ leads_same _ E _ R _ (c.loop-u-test.true) in
-        ⊎_elim
-        (λ w. rw (w.1, w.2) (leading_yes _ E _ _ _ (c.loop-u-test.true) ((c.loop-u.invariant.1) E R) _ same w.0.taken (c.if-n-le128.true)))
-        (λ w. rw (w.1, w.2) (leading_no _ E _ _ _ (c.loop-u-test.true) ((c.loop-u.invariant.1) E R) _ same w.0.left))
-        c.if-leads.branch,
+        elim c.if-leads.branch [
+          then-leads w ↦ rw (w.list-is, w.m-is) (leading_yes _ E _ _ _ (c.loop-u-test.true) ((c.loop-u.invariant.1) E R) _ same w.if-leads.true (c.if-n-le128.true))
+          | else-leads w ↦ rw (w.list-is, w.m-is) (leading_no _ E _ _ _ (c.loop-u-test.true) ((c.loop-u.invariant.1) E R) _ same w.if-leads.false)
+        ],
         )
 
 pub returns-after-loop-u : goal.returns-after-loop-u

@@ -1,10 +1,10 @@
 use borrow.Author.Rules.{rules}
 use Prim.Native.Nat.{ℕ, ◌≤◌, ◌<◌, ◌-◌}
 use lib.Dec.{T}
-use mathlib.Core.Logic.{⊎_elim}
 use native.Mathlib.Nat.{not-suc-le-zero}
 use Rattle.graph.proofs.Groups.{joins, leads_off, leads_lower, leads_on, apart_from, apart_to}
 use Rattle.graph.proofs.leads.Goals as goal
+use Rattle.graph.proofs.leads.Goals.{then-contains-2+else-contains-3, else-contains-2}
 
 pub loop-h-init : goal.loop-h-init
 loop-h-init c = (search rules, λ j h. absurd (not-suc-le-zero h))
@@ -17,10 +17,10 @@ pub loop-h-preserved : goal.loop-h-preserved
 loop-h-preserved c =
     (
         search rules,
-        ⊎_elim
-        (λ w. apart_to _ _ _ (c.row-reached.ensures) _ (c.loop-h.invariant.1) _ (c.contains-in-loop-h.ensures) _ w.1.ensures _ w.2.ensures w.3.left)
-        (λ w. apart_from _ _ _ (c.row-reached.ensures) _ (c.loop-h.invariant.1) _ (c.contains-in-loop-h.ensures) w.left)
-        c.if-contains-2.branch,
+        elim c.if-contains-2.branch [
+          then-contains-2+else-contains-3 w ↦ apart_to _ _ _ (c.row-reached.ensures) _ (c.loop-h.invariant.1) _ (c.contains-in-loop-h.ensures) _ w.row.ensures _ w.contains-then-contains-2.ensures w.if-contains-3.false
+          | else-contains-2 w ↦ apart_from _ _ _ (c.row-reached.ensures) _ (c.loop-h.invariant.1) _ (c.contains-in-loop-h.ensures) w.if-contains-2.false
+        ],
         )
 
 pub returns-then-contains : goal.returns-then-contains

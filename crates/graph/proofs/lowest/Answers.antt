@@ -1,29 +1,29 @@
 use borrow.Author.Rules.{rules}
 use Prim.Native.Nat.{ℕ, ◌≤◌, ◌<◌, ◌-◌}
 use native.Mathlib.Nat.{not-suc-le-zero}
-use mathlib.Core.Logic.{⊎_elim}
 use lib.Dec.{T}
 use borrow.Author.Tests.{not-true, not-false}
 use Rattle.graph.specs.Rows.{ready_by}
 use Rattle.graph.proofs.Placing.{ready_placed, ready_waits, ready_found}
 use Rattle.graph.proofs.Tests.{search_end}
 use Rattle.graph.proofs.lowest.Goals as goal
+use Rattle.graph.proofs.lowest.Goals.{then-not-contains+else-inside, else-not-contains}
 
 pub loop-g-init : goal.loop-g-init
 loop-g-init c = (search rules, λ j h. absurd (not-suc-le-zero h))
 
 pub returns-then-inside : goal.returns-then-inside
 returns-then-inside c =
-    ready_found _ _ _ _ (c.loop-g-test.true) (c.loop-g.invariant.1) _ (c.contains.ensures) (not-true _ (c.if-not-contains.true)) _ (c.row.ensures) _ (c.inside.ensures) c.if-inside.true
+    ready_found _ _ _ _ (c.loop-g-test.true) (c.loop-g.invariant.1) _ (c.contains.ensures) c.if-not-contains.true _ (c.row.ensures) _ (c.inside.ensures) c.if-inside.true
 
 pub loop-g-preserved : goal.loop-g-preserved
 loop-g-preserved c =
     (
         search rules,
-        ⊎_elim
-        (λ w. ready_waits _ _ _ _ (c.loop-g-test.true) (c.loop-g.invariant.1) _ (c.contains.ensures) (not-true _ w.0.taken) _ w.1.ensures _ w.2.ensures w.3.left)
-        (λ w. ready_placed _ _ _ _ (c.loop-g-test.true) (c.loop-g.invariant.1) _ (c.contains.ensures) (not-false _ w.left))
-        c.if-not-contains.branch,
+        elim c.if-not-contains.branch [
+          then-not-contains+else-inside w ↦ ready_waits _ _ _ _ (c.loop-g-test.true) (c.loop-g.invariant.1) _ (c.contains.ensures) w.if-not-contains.true _ w.row.ensures _ w.inside.ensures w.if-inside.false
+          | else-not-contains w ↦ ready_placed _ _ _ _ (c.loop-g-test.true) (c.loop-g.invariant.1) _ (c.contains.ensures) w.if-not-contains.false
+        ],
         )
 
 pub returns : goal.returns

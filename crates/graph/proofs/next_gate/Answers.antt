@@ -1,10 +1,10 @@
 use borrow.Author.Rules.{rules}
 use Prim.Native.Nat.{ℕ, ◌≤◌, ◌<◌, ◌-◌}
 use native.Mathlib.Nat.{not-suc-le-zero}
-use mathlib.Core.Logic.{⊎_elim}
 use lib.Dec.{T}
 use Rattle.graph.proofs.Ways.{next, next_far, next_apart, next_found, next_none}
 use Rattle.graph.proofs.next_gate.Goals as goal
+use Rattle.graph.proofs.next_gate.Goals.{then-d-w+else-calls, else-d-w}
 
 pub loop-w-init : goal.loop-w-init
 loop-w-init c = (search rules, λ b j h. absurd (not-suc-le-zero h))
@@ -17,10 +17,10 @@ pub loop-w-preserved : goal.loop-w-preserved
 loop-w-preserved c =
     (
         search rules,
-        ⊎_elim
-        (λ w b. next_apart _ _ _ _ _ _ (c.loop-w-test.true) ((c.loop-w.invariant.1) b) _ w.1.ensures (c.requires) w.2.left b)
-        (λ w b. next_far _ _ _ _ _ _ (c.loop-w-test.true) ((c.loop-w.invariant.1) b) w.left)
-        c.if-d-w.branch,
+        elim c.if-d-w.branch [
+          then-d-w+else-calls w ↦ λ b. next_apart _ _ _ _ _ _ (c.loop-w-test.true) ((c.loop-w.invariant.1) b) _ w.calls.ensures (c.requires) w.if-calls.false b
+          | else-d-w w ↦ λ b. next_far _ _ _ _ _ _ (c.loop-w-test.true) ((c.loop-w.invariant.1) b) w.if-d-w.false
+        ],
         )
 
 pub returns : goal.returns

@@ -1,9 +1,9 @@
 use borrow.Author.Rules.{rules}
 use Prim.Native.Nat.{◌≤◌, ◌-◌}
-use mathlib.Core.Logic.{⊎_elim}
 use Rattle.graph.specs.Rows.{Passed}
 use Rattle.graph.proofs.Groups.{passed_none, pass_on, pass_over, passed_all}
 use Rattle.graph.proofs.pivot.Goals as goal
+use Rattle.graph.proofs.pivot.Goals.{then-contains, else-contains}
 
 pub loop-i-init : goal.loop-i-init
 loop-i-init c = (search rules, passed_none _ _ c.requires.2)
@@ -12,10 +12,10 @@ pub loop-i-preserved : goal.loop-i-preserved
 loop-i-preserved c =
     (
         search rules,
-        ⊎_elim
-        (λ w. rw w.4 (pass_on _ _ _ _ (c.loop-i.invariant.1) _ (c.row-reached.ensures) _ (c.contains.ensures) w.0.taken _ (c.row-through.ensures) _ w.2.ensures _ w.3.ensures))
-        (λ w. rw w.1 (pass_over _ _ _ _ (c.loop-i.invariant.1) _ (c.row-reached.ensures) _ (c.contains.ensures) w.0.left))
-        c.if-contains.branch,
+        elim c.if-contains.branch [
+          then-contains w ↦ rw w.t-is (pass_on _ _ _ _ (c.loop-i.invariant.1) _ (c.row-reached.ensures) _ (c.contains.ensures) w.if-contains.true _ (c.row-through.ensures) _ w.union.ensures _ w.put_row.ensures)
+          | else-contains w ↦ rw w.t-is (pass_over _ _ _ _ (c.loop-i.invariant.1) _ (c.row-reached.ensures) _ (c.contains.ensures) w.if-contains.false)
+        ],
         )
 
 pub returns : goal.returns
