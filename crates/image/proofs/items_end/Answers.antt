@@ -1,3 +1,4 @@
+use Rattle.std.proofs.Common.{tests}
 use borrow.Author.Rules.{rules}
 use borrow.Author.Tests.{ne_eqb}
 use mathlib.Core.Path.{◌∙◌}
@@ -96,5 +97,4 @@ returns-in-21 c = rw c.in-21.is c.call_after.ensures
 
 pub returns-in_default : goal.returns-in_default
 unfolding items
-returns-in_default c =
-    let r = c.in_default.rest in rw (ne_eqb _ _ r.1, ne_eqb _ _ r.0.1, ne_eqb _ _ r.0.0.1, ne_eqb _ _ r.0.0.0.1, ne_eqb _ _ r.0.0.0.0.1, ne_eqb _ _ r.0.0.0.0.0.1, ne_eqb _ _ r.0.0.0.0.0.0.1, ne_eqb _ _ r.0.0.0.0.0.0.0.1, ne_eqb _ _ r.0.0.0.0.0.0.0.0.1, ne_eqb _ _ r.0.0.0.0.0.0.0.0.0.1, ne_eqb _ _ r.0.0.0.0.0.0.0.0.0.0.1) c.if_after.ensures
+returns-in_default c = search (rules, tests)

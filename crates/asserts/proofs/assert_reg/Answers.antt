@@ -1,0 +1,12 @@
+use borrow.Author.Rules.{rules}
+use Rattle.asserts.proofs.Operands.{operand_laws}
+use Rattle.asserts.proofs.assert_reg.Goals as goal
+
+pub returns-then-same_kind : goal.returns-then-same_kind
+returns-then-same_kind c = search operand_laws
+
+pub returns-in-Nothing : goal.returns-in-Nothing
+returns-in-Nothing c = search operand_laws
+
+pub returns-else-same_kind : goal.returns-else-same_kind
+returns-else-same_kind c = search operand_laws

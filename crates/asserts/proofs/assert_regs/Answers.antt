@@ -1,0 +1,21 @@
+use borrow.Author.Rules.{rules}
+use mathlib.Core.Path.{◌≡◌, refl, ◌∙◌}
+use mathlib.Core.List.{map}
+use lib.ListN.{length}
+use Rattle.rules.specs.Errors.{error_field}
+use Rattle.views.specs.View.{operand_in, row_in}
+use Rattle.output.specs.Sinks.{Owes, owes_all, owes_less, owes_none}
+use Rattle.tables.specs.Tables.{reg_in}
+use Rattle.rules.specs.Checking.{quantum, operand_errors}
+use Rattle.asserts.proofs.Matching.{regs_none, regs_more}
+use Rattle.asserts.proofs.assert_regs.Goals as goal
+
+pub loop-left-init : goal.loop-left-init
+loop-left-init c = (refl, owes_all error_field _ _ _)
+
+pub loop-left-preserved : goal.loop-left-preserved
+loop-left-preserved c =
+    (c.assert_reg-r.auto.out ∙ c.loop-left.invariant.0, owes_less error_field (c.loop-left.invariant.1) (regs_more _ _ _ _ _ c.loop-left-test.true _ c.operand.ensures _ c.along-at.ensures) c.assert_reg-r.ensures)
+
+pub returns : goal.returns
+returns c = owes_none error_field (c.loop-left.invariant.1) (regs_none _ _ _ _ _ c.loop-left-test.false)

@@ -1,0 +1,18 @@
+use borrow.Author.Rules.{rules}
+use mathlib.Core.Path.{◌≡◌, refl, ◌∙◌}
+use mathlib.Core.List.{map}
+use lib.ListN.{length}
+use Rattle.rules.specs.Errors.{error_field}
+use Rattle.views.specs.View.{operand_in, row_in}
+use Rattle.output.specs.Sinks.{Owes, owes_all, owes_less, owes_none}
+use Rattle.tables.specs.Tables.{reg_in}
+use Rattle.rules.specs.Checking.{quantum, unfixed, match_errors}
+use Rattle.asserts.proofs.Matching.{matches_none, matches_more}
+use Rattle.asserts.proofs.match_row.Given as goal
+
+abbrev pub invariant-loop-left : goal.invariant-loop-left
+invariant-loop-left l =
+    (length l.out ≡ length l.initial.out) × Owes error_field l.initial.out l.initial.m.sink (match_errors (reg_in l.t) l.stmt unfixed (map quantum (row_in operand_in 15 l.k l.p l.from))) l.out l.m.sink (match_errors (reg_in l.t) l.stmt l.m.fixed (map quantum (row_in operand_in 15 l.left l.p l.at)))
+
+abbrev pub decreases-loop-left : goal.decreases-loop-left
+decreases-loop-left l = l.left

@@ -1,0 +1,6 @@
+use borrow.Author.Rules.{rules}
+use Rattle.asserts.proofs.Matching.{match_pair}
+use Rattle.asserts.proofs.match_two.Goals as goal
+
+pub returns : goal.returns
+returns c = match_pair _ _ _ _ _ _ _ _ _ _ c.match_operand-m.ensures c.match_operand-n.ensures
