@@ -65,7 +65,7 @@ pub fn is_reg(tag: u64) -> bool
 }
 
 // The registers by name, and how many register fields there are.
-#[derive(Drop)]
+#[derive(Clone, Copy)]
 pub struct Regs {
     pub rows: [u64; 2048],
     pub count: usize,
@@ -124,7 +124,7 @@ fn reg_step(
     }
 }
 
-#[derive(Drop)]
+#[derive(Clone, Copy)]
 pub struct RegsRead {
     pub regs: Regs,
     pub sink: Sink,
@@ -224,7 +224,7 @@ fn tell_repeats(
 }
 
 // The gates by name, the declaration span of each by number, and how many there are.
-#[derive(Drop)]
+#[derive(Clone, Copy)]
 pub struct Gates {
     pub rows: [u64; 2048],
     pub defs: [u64; 128],
@@ -334,7 +334,7 @@ fn decl_step(
     }
 }
 
-#[derive(Drop)]
+#[derive(Clone, Copy)]
 pub struct GatesRead {
     pub gates: Gates,
     pub sink: Sink,

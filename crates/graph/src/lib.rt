@@ -12,13 +12,13 @@ pub mod sets; // sets.rt: sets of gates
 use sets::{Set, contains, inside, meets, union, with};
 
 // Two words for each of 128 gates: the set of those that it calls.
-#[derive(Drop)]
+#[derive(Clone, Copy)]
 pub struct Graph {
     pub rows: [u64; 256],
 }
 
 // Gates in a row.
-#[derive(Drop)]
+#[derive(Clone, Copy)]
 pub struct Gates {
     pub gates: [u64; 128],
     pub count: usize,

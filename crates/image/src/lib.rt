@@ -17,7 +17,7 @@ use items::{
 use rules::{Counts, Num, Skip};
 
 // The places of the NAME fields that were met.
-#[derive(Drop)]
+#[derive(Clone, Copy)]
 pub struct Names {
     pub at: [usize; 512],
     pub count: usize,
@@ -31,7 +31,7 @@ pub enum Verdict {
 }
 
 // A whole image: the verdict, and where it is read its names and counts.
-#[derive(Drop)]
+#[derive(Clone, Copy)]
 pub struct Image {
     pub verdict: Verdict,
     pub names: Names,

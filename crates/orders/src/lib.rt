@@ -38,7 +38,7 @@ fn put_gates(out: &mut [u8], list: &[u64]) -> usize
 }
 
 // Of an image that is read: how many errors it has, its gates by name, and its gates in order.
-#[derive(Drop)]
+#[derive(Clone, Copy)]
 pub struct Ready {
     pub errors: usize,
     pub heads: [u64; 2048],

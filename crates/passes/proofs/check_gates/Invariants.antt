@@ -1,0 +1,18 @@
+use borrow.Author.Rules.{rules}
+use mathlib.Core.Path.{◌≡◌, refl, ◌∙◌}
+use mathlib.Core.Bool.{false}
+use Prim.Native.Nat.{◌-◌}
+use native.Mathlib.Omega.{arith}
+use lib.ListN.{length}
+use Rattle.rules.specs.Errors.{error_field}
+use Rattle.output.specs.Sinks.{Owes, owes_all, owes_none}
+use Rattle.tables.specs.Tables.{scope_in}
+use Rattle.passes.proofs.Turns.{tops, tops_end, moved}
+use Rattle.passes.proofs.check_gates.Given as goal
+
+abbrev pub invariant-loop-w : goal.invariant-loop-w
+invariant-loop-w l =
+    (length l.out ≡ length l.initial.out) × Owes error_field l.initial.out l.initial.w.sink (tops (scope_in l.gates l.regs) l.img false 0) l.out l.w.sink (tops (scope_in l.gates l.regs) l.img l.w.inside l.w.next)
+
+abbrev pub decreases-loop-w : goal.decreases-loop-w
+decreases-loop-w l = length l.img - l.w.next
