@@ -1,0 +1,14 @@
+use borrow.Author.Rules.{rules}
+use mathlib.Core.Path.{◌≡◌, refl, sym, ◌∙◌}
+use lib.Dec.{eqb}
+use Rattle.rules.specs.Basics.{pick}
+use Rattle.rules.specs.Run.{common}
+use Rattle.counts.proofs.Turns.{row, common_turn, common_over}
+use Rattle.counts.proofs.common_row.Given as goal
+
+abbrev pub invariant-loop-left : goal.invariant-loop-left
+invariant-loop-left l =
+    pick (eqb l.c 1) (common (row l.regs l.left l.p l.at)) l.c ≡ common (row l.regs l.k l.p l.from)
+
+abbrev pub decreases-loop-left : goal.decreases-loop-left
+decreases-loop-left l = l.left

@@ -1,0 +1,18 @@
+use borrow.Author.Rules.{rules}
+use mathlib.Core.Path.{◌≡◌, refl}
+use Prim.Native.Nat.{◌+◌, ◌-◌, ◌≤◌, min}
+use native.Mathlib.Omega.{arith}
+use lib.ListN.{length}
+use mathlib.Core.List.{[]}
+use lib.ListN.{get_or}
+use Rattle.views.specs.View.{rest}
+use Rattle.counts.proofs.Turns.{capped_turn, capped_end}
+use Rattle.counts.proofs.Walks.{body_sum, body_turn, body_over, body_done}
+use Rattle.counts.proofs.count_body.Given as goal
+
+abbrev pub invariant-loop-at : goal.invariant-loop-at
+invariant-loop-at l =
+    (l.n ≤ 4097) × (min 4097 (l.n + body_sum l.gates [] (λ g. get_or l.counts g 0) (rest l.img l.at)) ≡ min 4097 (body_sum l.gates [] (λ g. get_or l.counts g 0) (rest l.img l.from)))
+
+abbrev pub decreases-loop-at : goal.decreases-loop-at
+decreases-loop-at l = length l.img - l.at
