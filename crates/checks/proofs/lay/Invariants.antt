@@ -1,0 +1,14 @@
+-- The loop's invariant: as many bytes as were passed lie over the front.
+use borrow.Author.Rules.{rules}
+use mathlib.Core.Path.{◌≡◌, refl}
+use mathlib.Core.List.{◌++◌}
+use Prim.Native.Nat.{◌≤◌, ◌-◌}
+use lib.ListN.{length, take, drop}
+use Rattle.checks.proofs.Laying.{lay_turn, lay_long, lay_end}
+use Rattle.checks.proofs.lay.Given as goal
+
+abbrev pub invariant-loop-i : goal.invariant-loop-i
+invariant-loop-i l = (l.i ≤ l.n) × (l.out ≡ take l.i l.held ++ drop l.i l.initial.out) × (length l.out ≡ length l.initial.out)
+
+abbrev pub decreases-loop-i : goal.decreases-loop-i
+decreases-loop-i l = l.n - l.i

@@ -1,0 +1,21 @@
+use borrow.Author.Rules.{rules}
+use mathlib.Core.Path.{◌≡◌, refl, ◌∙◌}
+use Prim.Native.Nat.{◌-◌}
+use mathlib.Core.List.{[], ◌∷◌}
+use lib.ListN.{length}
+use Rattle.rules.specs.Run.{entry_field}
+use Rattle.output.specs.Sinks.{Owes, owes_less, owes_none}
+use Rattle.run.specs.Lines.{turn_list, one_of, lane_of, one_turns}
+use Rattle.run.proofs.Turns.{owes_from, ones_all, turns_more, turns_none}
+use mathlib.Core.Path.{ap}
+use Rattle.run.proofs.each_one.Goals as goal
+
+pub loop-j-init : goal.loop-j-init
+loop-j-init c = (refl, owes_from _ _ _ _ (ones_all _ _ _))
+
+pub loop-j-preserved : goal.loop-j-preserved
+loop-j-preserved c =
+    (c.put_one-r.auto.out ∙ c.loop-j.invariant.0, owes_less entry_field (c.loop-j.invariant.1) (turns_more _ _ _ c.loop-j-test.true _ (ap (λ z. one_of c.args.kind z ∷ []) c.lane.ensures)) c.put_one-r.ensures)
+
+pub returns : goal.returns
+returns c = owes_none entry_field (c.loop-j.invariant.1) (turns_none _ _ _ c.loop-j-test.false)

@@ -1,0 +1,18 @@
+use borrow.Author.Rules.{rules}
+use mathlib.Core.Path.{◌≡◌, refl, ◌∙◌}
+use Prim.Native.Nat.{◌-◌}
+use mathlib.Core.List.{[], ◌∷◌}
+use lib.ListN.{length}
+use Rattle.rules.specs.Run.{entry_field}
+use Rattle.output.specs.Sinks.{Owes, owes_less, owes_none}
+use Rattle.run.specs.Lines.{turn_list, one_of, lane_of, one_turns}
+use Rattle.run.proofs.Turns.{owes_from, ones_all, turns_more, turns_none}
+use mathlib.Core.Path.{ap}
+use Rattle.run.proofs.each_one.Given as goal
+
+abbrev pub invariant-loop-j : goal.invariant-loop-j
+invariant-loop-j l =
+    (length l.out ≡ length l.initial.out) × Owes entry_field l.initial.out l.initial.r (one_turns l.kind l.start l.n) l.out l.r (turn_list (l.n - l.j) l.j (λ l.j. one_of l.kind (lane_of l.start l.n l.j) ∷ []))
+
+abbrev pub decreases-loop-j : goal.decreases-loop-j
+decreases-loop-j l = l.n - l.j

@@ -1,0 +1,18 @@
+use borrow.Author.Rules.{rules}
+use mathlib.Core.Path.{◌≡◌, refl, ◌∙◌}
+use Prim.Native.Nat.{◌-◌}
+use mathlib.Core.List.{[], ◌∷◌}
+use lib.ListN.{length}
+use Rattle.rules.specs.Run.{entry_field}
+use Rattle.output.specs.Sinks.{Owes, owes_less, owes_none}
+use Rattle.run.specs.Lines.{turn_list, two_of, lane_of, two_turns}
+use Rattle.run.proofs.Turns.{owes_from, twos_all, turns_more, turns_none}
+use mathlib.Core.Path.{ap₂}
+use Rattle.run.proofs.each_two.Given as goal
+
+abbrev pub invariant-loop-j : goal.invariant-loop-j
+invariant-loop-j l =
+    (length l.out ≡ length l.initial.out) × Owes entry_field l.initial.out l.initial.r (two_turns l.measures l.x l.m l.y l.n) l.out l.r (turn_list (l.both - l.j) l.j (λ l.j. two_of l.measures (lane_of l.x l.m l.j) (lane_of l.y l.n l.j) ∷ []))
+
+abbrev pub decreases-loop-j : goal.decreases-loop-j
+decreases-loop-j l = l.both - l.j
