@@ -13,23 +13,16 @@ use Rattle.run.proofs.Bodies.{gate_zero, gate_opaque, gate_body, Lines, body_pla
 use Prim.Native.Nat.{ℕ, ◌<◌}
 use Rattle.run.proofs.+run_gate.Goals as goal
 
-abbrev run_gate_Inv_loop : run-gate-lts.invariant-loop
-run_gate_Inv_loop out₀ img gates counts places depth g qs place head none at₀ r₀ out at r =
-    (length out ≡ length out₀) × Owes entry_field out₀ r₀ (gate_lines img gates counts places depth g qs) out r (Lines (gate_lines img gates counts places (depth - 1)) gates counts [] (sees [] head qs) (rest img at))
-
-abbrev run_gate_μ_loop : run-gate-lts.decreases-loop
-run_gate_μ_loop out₀ img gates counts places depth g qs place head none at₀ r₀ out at r = length img - at
-
 pub returns-then-depth-eq0 : goal.returns-then-depth-eq0
 returns-then-depth-eq0 t c = gate_zero _ _ _ _ _ _ _ c.if-depth-eq0.true _ _
 
 pub returns-then-not-is_one : goal.returns-then-not-is_one
 returns-then-not-is_one t c =
-    gate_opaque _ _ _ _ _ _ _ c.if-depth-eq0.false _ c.word_of-place.ensures _ c.load-head.ensures _ c.is_one.ensures (not_true _ c.if-not-is_one.true) _ c.name.ensures _ _ _ _ c.opaque_call.ensures
+    gate_opaque _ _ _ _ _ _ _ c.if-depth-eq0.false _ c.word_of-place.ensures _ c.load-head.ensures _ c.is_one.ensures c.if-not-is_one.true _ c.name.ensures _ _ _ _ c.opaque_call.ensures
 
 pub loop-at-init : goal.loop-at-init
 loop-at-init t c =
-    (refl, owes_from _ _ _ _ (gate_body _ _ _ _ _ _ _ c.if-depth-eq0.false _ c.word_of-place.ensures _ c.load-head.ensures _ c.is_one.ensures (not_false _ c.if-not-is_one.false) _ refl _ c.next-at.ensures))
+    (refl, owes_from _ _ _ _ (gate_body _ _ _ _ _ _ _ c.if-depth-eq0.false _ c.word_of-place.ensures _ c.load-head.ensures _ c.is_one.ensures c.if-not-is_one.false _ refl _ c.next-at.ensures))
 
 pub returns-then-tag-eq6 : goal.returns-then-tag-eq6
 returns-then-tag-eq6 t c =

@@ -8,4 +8,4 @@ use Prim.Native.Nat.{ℕ, ◌<◌}
 use Rattle.run.proofs.+run_stmt.Given as goal
 
 abbrev pub decreases-run_stmt : goal.decreases-run_stmt
-decreases-run_stmt l = length a.1.1.0.now - a.1.1.1.0
+decreases-run_stmt l = length l.img.now - l.at
