@@ -1,0 +1,12 @@
+use borrow.Author.Rules.{rules}
+use mathlib.Core.Path.{◌≡◌, refl, ◌∙◌}
+use Prim.Native.Nat.{◌-◌}
+use lib.ListN.{length}
+use Rattle.orders.proofs.Listing.{Left, left_less, left_none}
+use Rattle.orders.proofs.put_gates.Given as goal
+
+abbrev pub invariant-loop-i : goal.invariant-loop-i
+invariant-loop-i l = (length l.out ≡ length l.initial.out) × Left l.list l.initial.out l.out l.at l.i
+
+abbrev pub decreases-loop-i : goal.decreases-loop-i
+decreases-loop-i l = length l.list - l.i
