@@ -69,8 +69,7 @@ fn put_answer(answer: &mut [u8], a: Answer)
 }
 
 // Check, for a host. An answer slice of fewer than 24 bytes: nothing is changed at all.
-#[unsafe(no_mangle)]
-pub extern "C" fn pesukoymi_check(image: &[u8], out: &mut [u8], answer: &mut [u8])
+pub fn pesukoymi_check(image: &[u8], out: &mut [u8], answer: &mut [u8])
     ensures { Called (checked image.now out.old) out.old answer.old out.new answer.new }
 {
     if answer.len() < 24 {
@@ -81,8 +80,7 @@ pub extern "C" fn pesukoymi_check(image: &[u8], out: &mut [u8], answer: &mut [u8
 }
 
 // Order, for a host. An answer slice of fewer than 24 bytes: nothing is changed at all.
-#[unsafe(no_mangle)]
-pub extern "C" fn pesukoymi_order(image: &[u8], out: &mut [u8], answer: &mut [u8])
+pub fn pesukoymi_order(image: &[u8], out: &mut [u8], answer: &mut [u8])
     ensures { Called (ordered image.now out.old) out.old answer.old out.new answer.new }
 {
     if answer.len() < 24 {
@@ -93,8 +91,7 @@ pub extern "C" fn pesukoymi_order(image: &[u8], out: &mut [u8], answer: &mut [u8
 }
 
 // Expand, for a host. An answer slice of fewer than 24 bytes: nothing is changed at all.
-#[unsafe(no_mangle)]
-pub extern "C" fn pesukoymi_expand(image: &[u8], out: &mut [u8], answer: &mut [u8])
+pub fn pesukoymi_expand(image: &[u8], out: &mut [u8], answer: &mut [u8])
     ensures { Called (expanded image.now out.old) out.old answer.old out.new answer.new }
 {
     if answer.len() < 24 {
