@@ -29,22 +29,22 @@ for block in open(samples).read().strip().split('\n\n'):
     cases.append((bytes.fromhex((words['image'] + [''])[0]), words))
 
 work = tempfile.mkdtemp(prefix='definitions-')
-shutil.copytree(os.path.join(home, 'crates', 'rules'), os.path.join(work, 'crates', 'rules'), ignore=shutil.ignore_patterns('must-fail'))
+shutil.copytree(os.path.join(home, 'crates', 'rules'), os.path.join(work, 'crates', 'rules'), ignore=shutil.ignore_patterns('must-fail', 'out'))
 open(os.path.join(work, 'crates.txt'), 'w').write('rules:\n')
-specs = os.path.join(work, 'crates', 'rules', 'specs')
-page = open(os.path.join(specs, 'Specimens.antt')).read()
+proofs = os.path.join(work, 'crates', 'rules', 'proofs')
+page = open(os.path.join(proofs, 'Specimens.antt')).read()
 opens = re.search(r'^unfolding .*$', page, re.M).group(0)
 head = page[:page.index('-- ---- fields of an image')]
-head = head.replace('checkRead, check, laidRun', 'checkRead, check, orderRead, order, laidRun') + 'use Rattle·rules·specs.specs.Order as gates\n\n'
+head = head.replace('check_read, check, laid_run', 'check_read, check, order_read, order, laid_run') + 'use Rattle.rules.specs.Order as gates\n\n'
 record = page[page.index('pub record Specimen'):page.index('abbrev pub checks')]
 tables = page[page.index('-- a buffer of just the length'):page.index('pub specimens')]
 text = head + record + tables
 for n, (image, words) in enumerate(cases):
     rows = ' ∷ '.join(row(s, n, words[s]) for s in ('check', 'order', 'expand'))
     text += f'abbrev pub img{n} : List ℕ\nimg{n} = {listed(image)}\n\nabbrev pub t{n} : List Specimen\nt{n} = {rows} ∷ []\n\n'
-    text += f'pub s{n} : given t{n} ≡ wanted t{n}\n{opens} orderRead order gates.order gates.orderFrom gates.ready gates.has gates.orderOf\ns{n} = refl\n\n'
-open(os.path.join(specs, 'Samples.antt'), 'w').write(text)
-open(os.path.join(specs, 'Lib.antt'), 'a').write('pub mod Samples\n')
+    text += f'pub s{n} : given t{n} ≡ wanted t{n}\n{opens} order_read order gates.order gates.order_from gates.ready gates.has gates.order_of\ns{n} = refl\n\n'
+open(os.path.join(proofs, 'Samples.antt'), 'w').write(text)
+open(os.path.join(proofs, 'Lib.antt'), 'a').write('pub mod Samples\n')
 run = subprocess.run(['rt', 'check'], cwd=work, capture_output=True, text=True)
 shutil.rmtree(work)
 if run.returncode:

@@ -10,4 +10,3 @@ pub mod Calls
 pub mod Order
 pub mod Run
 pub mod Answers
-pub mod Specimens
