@@ -8,19 +8,22 @@ command -v python3 >/dev/null || { apt-get update -qq && apt-get install -y -qq 
 
 log=$(mktemp)
 trap 'rm -f "$log"' EXIT
-# A check waits for files a good part of its time, so one more at a time than there are cores.
-if ! RT_JOBS=${RT_JOBS:-$(($(nproc) + 1))} rt ci >"$log" 2>&1; then
+if ! rt ci >"$log" 2>&1; then
     tail -n 60 "$log"
     exit 1
 fi
-grep -E '^rt: ' "$log" || true
+ok=$(grep '^rt: ok' "$log" || true)
+printf '%s\n' "$ok"
+# rt ci passes an edit that it cannot apply or compile; here that is a fault.
+if grep -qE ', [1-9][0-9]* bad' <<<"$ok"; then
+    grep -F 'BAD EDIT' "$log" || true
+    exit 1
+fi
 verdict=$(tail -n 1 "$log")
 
+python3 tools/edits.py
 python3 tests/definitions.py
-
-if grep -q '^pesukoymi:' crates.txt; then
-    rt staticlib pesukoymi >/dev/null
-fi
+bash tests/archive.sh
 bash host/test.sh
 
 printf '%s\n' "$verdict"
