@@ -2,43 +2,43 @@
 #![tactic(auto)]
 
 use checks::check;
-use libc::STDOUT_FILENO;
 use rules::Answer;
+use std::io;
+use texts::read_full;
 
 // A word and a number on a line.
-fn line(word: &[u8], n: u64) {
-    io::write_all(STDOUT_FILENO, word);
-    io::print_decimal(STDOUT_FILENO, n);
-    io::write_all(STDOUT_FILENO, b"\n");
+fn line(rt: &impl Print, word: &str, n: u64) -> io::Result<()> {
+    println!(rt; "{word} {n}")
 }
 
 // The first bytes of a buffer.
-fn write_part(out: &[u8], bytes: usize) {
+fn write_part(rt: &impl Print, out: &[u8], bytes: usize) -> io::Result<()> {
     if bytes <= out.len() {
-        io::write_all(STDOUT_FILENO, &out[..bytes]);
+        rt.write_all(&out[..bytes])?;
     }
+    Ok(())
 }
 
-fn tell(image: &[u8], out: &mut [u8]) {
+fn tell(rt: &impl Print, image: &[u8], out: &mut [u8]) -> io::Result<()> {
     let a = check(image, out);
     match a {
-        Answer::Done { items, bytes: _ } => line(b"accepted ", items as u64),
+        Answer::Done { items, bytes: _ } => line(rt, "accepted", items as u64),
         Answer::Errors { errors, bytes } => {
-            line(b"errors ", errors as u64);
-            write_part(out, bytes);
+            line(rt, "errors", errors as u64)?;
+            write_part(rt, out, bytes)
         }
-        Answer::Refused { number, offset: _ } => line(b"refused ", number),
-        Answer::Rejected => line(b"refused ", 8),
-        Answer::Machine => line(b"refused ", 9),
-        Answer::Entries => line(b"refused ", 10),
-        Answer::Room { items: _, bytes: _ } => line(b"refused ", 11),
+        Answer::Refused { number, offset: _ } => line(rt, "refused", number),
+        Answer::Rejected => line(rt, "refused", 8),
+        Answer::Machine => line(rt, "refused", 9),
+        Answer::Entries => line(rt, "refused", 10),
+        Answer::Room { items: _, bytes: _ } => line(rt, "refused", 11),
     }
 }
 
-fn main() {
+fn main(rt: HostRuntime) -> io::Result<()> {
     // one byte more than an image may have, so that a longer one is seen to be
     let mut image = [0u8; 65537];
-    let n = io::read_full(0, &mut image);
-    let mut out = io::large_buffer();
-    tell(&image[..n], &mut out);
+    let n = read_full(&mut rt.stdin(), &mut image)?;
+    let mut out = [0u8; 65536];
+    tell(&rt, &image[..n], &mut out)
 }

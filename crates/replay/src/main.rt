@@ -6,9 +6,9 @@ ghost use Rattle.std.specs.Prelude.{◌≡◌, get_or};
 ghost use Rattle.views.specs.View.{next_in};
 
 use checks::check;
-use libc::STDOUT_FILENO;
 use rules::Answer;
-use texts::{at, number, step, unhex, until};
+use std::io;
+use texts::{at, number, read_full, step, unhex, until};
 use walker::{front, next, tag};
 
 // Whether two slices have the same first `n` bytes.
@@ -64,7 +64,7 @@ fn fields_agree(out: &[u8], bytes: usize, expected: &[u8], n: usize, groups: usi
 
 // Whether the check of an image answers what is expected.
 fn agrees(image: &[u8], expected: &[u8], n: usize, groups: usize) -> bool {
-    let mut out = io::large_buffer();
+    let mut out = [0u8; 65536];
     let a = check(image, &mut out);
     match a {
         Answer::Done { items: _, bytes: _ } => n == 0 && groups == 0,
@@ -109,14 +109,11 @@ fn case_agrees(s: &[u8], from: usize, to: usize) -> bool {
     part_agrees(&image, bytes, &expected, n, number(s, second, to))
 }
 
-fn tell(cases: usize, right: usize) {
-    io::print_decimal(STDOUT_FILENO, cases as u64);
-    io::write_all(STDOUT_FILENO, b" cases, ");
-    io::print_decimal(STDOUT_FILENO, right as u64);
-    io::write_all(STDOUT_FILENO, b" as the Rust answered\n");
+fn tell(rt: &impl Print, cases: usize, right: usize) -> io::Result<()> {
+    println!(rt; "{cases} cases, {right} as the Rust answered")
 }
 
-fn replay(s: &[u8]) {
+fn replay(rt: &impl Print, s: &[u8]) -> io::Result<()> {
     let mut cases = 0;
     let mut right = 0;
     let mut p = 0;
@@ -128,11 +125,11 @@ fn replay(s: &[u8]) {
         cases = step(cases, 1000000);
         p = step(end, s.len());
     }
-    tell(cases, right);
+    tell(rt, cases, right)
 }
 
-fn main() {
+fn main(rt: HostRuntime) -> io::Result<()> {
     let mut text = [0u8; 262144];
-    let n = io::read_full(0, &mut text);
-    replay(&text[..n]);
+    let n = read_full(&mut rt.stdin(), &mut text)?;
+    replay(&rt, &text[..n])
 }

@@ -3,9 +3,9 @@
 #![tactic(auto)]
 
 use image::{Verdict, read_image};
-use libc::STDOUT_FILENO;
 use output::put1;
-use texts::{at, number, step, unhex, until};
+use std::io;
+use texts::{at, number, read_full, step, unhex, until};
 
 // Puts the bytes between two places of `out` there once more, from `n` on, and answers the place after them.
 fn again(out: &mut [u8], from: usize, to: usize, n: usize) -> usize {
@@ -94,14 +94,11 @@ fn case_agrees(s: &[u8], from: usize, to: usize) -> bool {
     part_agrees(&img, bytes, number(s, first, second), number(s, second, to))
 }
 
-fn tell(cases: usize, right: usize) {
-    io::print_decimal(STDOUT_FILENO, cases as u64);
-    io::write_all(STDOUT_FILENO, b" cases, ");
-    io::print_decimal(STDOUT_FILENO, right as u64);
-    io::write_all(STDOUT_FILENO, b" as document 01 says\n");
+fn tell(rt: &impl Print, cases: usize, right: usize) -> io::Result<()> {
+    println!(rt; "{cases} cases, {right} as document 01 says")
 }
 
-fn reread(s: &[u8]) {
+fn reread(rt: &impl Print, s: &[u8]) -> io::Result<()> {
     let mut cases = 0;
     let mut right = 0;
     let mut p = 0;
@@ -113,11 +110,11 @@ fn reread(s: &[u8]) {
         cases = step(cases, 1000000);
         p = step(end, s.len());
     }
-    tell(cases, right);
+    tell(rt, cases, right)
 }
 
-fn main() {
+fn main(rt: HostRuntime) -> io::Result<()> {
     let mut text = [0u8; 131072];
-    let n = io::read_full(0, &mut text);
-    reread(&text[..n]);
+    let n = read_full(&mut rt.stdin(), &mut text)?;
+    reread(&rt, &text[..n])
 }

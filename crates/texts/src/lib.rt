@@ -1,11 +1,33 @@
-// What the programs that run a list again read its lines with: places, numbers and bytes in hex. Any text is read: a byte past the end counts as 0.
+// What the programs read with: the whole of an input, and of the lines of a list places, numbers and bytes in hex. Any text is read: a byte past the
+// end counts as 0.
 #![tactic(auto)]
 
-ghost use Rattle.std.specs.Prelude.{◌≡◌, ◌+◌, ◌-◌, ◌≤◌, ◌<◌, min, get_or};
+ghost use Rattle.std.specs.Prelude.{◌≡◌, ◌+◌, ◌-◌, ◌≤◌, ◌<◌, min, get_or, length, take, IfOk};
+ghost use Rattle.std.specs.Io.{ReadsAtMost};
+ghost use Rattle.std.specs.Io.KnownBytes.{Consumes, IsAtEnd};
 ghost use Rattle.output.specs.Bytes.{Wrote};
 ghost use Rattle.texts.specs.Text.{place_of, push, number_in, nibble_of, byte_of, hex_in};
 
 use output::put1;
+use std::io;
+use std::io::Read;
+
+// Reads until `buf` is full or the input ends, and answers how many bytes it put at the start of `buf`.
+pub fn read_full<R: Read>(input: &mut R, buf: &mut [u8]) -> io::Result<usize>
+    ensures count { ReadsAtMost result buf.new }
+    ensures bytes { IfOk result (λ n. Consumes (R.remaining input.old) (R.remaining input.new) (take n buf.new)) }
+    ensures end { IfOk result (λ n. n < length buf.new → IsAtEnd (R.remaining input.new)) }
+{
+    let mut done = 0;
+    while done < buf.len() {
+        let n = input.read(&mut buf[done..])?;
+        if n == 0 {
+            return Ok(done);
+        }
+        done += n;
+    }
+    Ok(done)
+}
 
 // The byte at a place.
 pub fn at(s: &[u8], i: usize) -> u8
