@@ -1,20 +1,18 @@
 -- Operands in a row, and matching: what each way out and each turn gives.
-use mathlib.Core.Path.{◌≡◌, refl, sym, ap, ◌∙◌, subst}
+use mathlib.Core.Path.{◌≡◌, refl, sym, ap, ◌∙◌}
 use mathlib.Core.List.{List, [], ◌∷◌, ◌++◌, map, append-nil}
-use mathlib.Core.Bool.{Bool, true, false, not, ◌&&◌}
-use Prim.Native.Nat.{ℕ, ◌-◌, ◌+◌, ◌<◌, ◌≤◌}
+use mathlib.Core.Bool.{false}
+use Prim.Native.Nat.{ℕ, ◌-◌, ◌<◌, ◌≤◌}
 use borrow.Author.Tests.{lt-ltb, le-ltb, eq-eqb, ne_eqb}
 use native.Mathlib.Omega.{arith}
-use lib.Dec.{ltb, eqb}
 use Rattle.rules.specs.declared.Operand.{Operand}
 use Rattle.rules.specs.declared.Match.{Match}
-use Rattle.rules.specs.Basics.{pick}
 use Rattle.rules.specs.Errors.{Error, error_field, wrong_operand_size}
 use Rattle.rules.specs.Checking.{Asked, quantum, Sized, size, bad, assert_reg, sized_errors, operand_errors, unfixed, fixed, differs, match_errors}
 use Rattle.views.specs.View.{on, operand_in, row_in}
 use Rattle.views.specs.Rows.{row_more, row_none, operand_ends}
 use Rattle.output.specs.declared.Sink.{Sink}
-use Rattle.output.specs.Sinks.{Said, put_none, put_then, put_same, Owes, owes_less, owes_none}
+use Rattle.output.specs.Sinks.{Said, put_none, put_then, put_same}
 use Rattle.tables.specs.Tables.{reg_in}
 use Rattle.asserts.specs.declared.Size.{Size}
 use Rattle.asserts.specs.declared.Size.TheVariants.{Known, Unknown}

@@ -1,17 +1,15 @@
 -- What each way out of the operand rule gives: a size, and what is told.
-use mathlib.Core.Path.{◌≡◌, refl, sym, ap, ◌∙◌}
+use mathlib.Core.Path.{◌≡◌, refl}
 use mathlib.Core.List.{List, [], ◌∷◌}
 use mathlib.Core.Bool.{Bool, true, false, beq}
 use Prim.Native.Nat.{ℕ, ◌<◌, ◌≤◌}
 use borrow.Author.Tests.{lt-ltb, le-ltb}
-use lib.Dec.{ltb}
 use Rattle.rules.specs.declared.Operand.{Operand}
 use Rattle.rules.specs.declared.Reg.{Reg}
 use Rattle.rules.specs.declared.Found.{Found}
 use Rattle.rules.specs.declared.Found.TheVariants.{Row, Nothing}
-use Rattle.rules.specs.Basics.{pick}
-use Rattle.rules.specs.Errors.{Error, error_field, invalid_register_index, wrong_register_type, undefined_register}
-use Rattle.rules.specs.Checking.{size, bad, index_size, found_size, assert_reg, sized_errors}
+use Rattle.rules.specs.Errors.{error_field, invalid_register_index, wrong_register_type, undefined_register}
+use Rattle.rules.specs.Checking.{index_size, assert_reg, sized_errors}
 use Rattle.output.specs.declared.Sink.{Sink}
 use Rattle.output.specs.Sinks.{Said, put_none}
 use Rattle.tables.specs.Tables.{reg_in}

@@ -1,26 +1,24 @@
 -- Counts, values and expressions: what each way out and each turn gives.
-use mathlib.Core.Path.{◌≡◌, refl, sym, ap, ◌∙◌, subst}
+use mathlib.Core.Path.{◌≡◌, refl, sym, ap, ◌∙◌}
 use mathlib.Core.List.{List, [], ◌∷◌, ◌++◌}
 use mathlib.Core.Bool.{Bool, true, false}
-use Prim.Native.Nat.{ℕ, zero, suc, ◌-◌, ◌+◌, ◌*◌, ◌%◌, ◌^◌, ◌<◌, ◌≤◌}
+use Prim.Native.Nat.{ℕ, zero, suc, ◌-◌, ◌+◌, ◌%◌, ◌^◌, ◌<◌, ◌≤◌}
 use borrow.Author.Tests.{lt-ltb, le-ltb, le-leb, lt-leb, eq-eqb, ne_eqb}
 use native.Mathlib.Omega.{arith}
-use native.Mathlib.Nat.{mod-eq_of_lt}
 use native.Mathlib.Numerals.{add-one, sub-one}
 use native.Mathlib.Decide.{ℕ_discrete}
 use lib.ListN.{length, get_or}
-use lib.Dec.{ltb, leb, eqb, lit<}
+use lib.Dec.{ltb, leb, eqb}
 use lib.Pow.{pow_mono}
 use Rattle.rules.specs.declared.Operand.{Operand}
 use Rattle.rules.specs.declared.Header.{Header}
 use Rattle.rules.specs.declared.FoundGate.{FoundGate}
 use Rattle.rules.specs.declared.FoundGate.TheVariants as gate
-use Rattle.rules.specs.Basics.{pick, first_from, first}
-use Rattle.rules.specs.Errors.{Error, error_field, invalid_comparison_size, undefined_parameter, undefined_gate}
+use Rattle.rules.specs.Basics.{pick, first_from}
+use Rattle.rules.specs.Errors.{error_field, invalid_comparison_size, undefined_parameter, undefined_gate}
 use Rattle.rules.specs.Items.{le2, le4}
-use Rattle.rules.specs.Checking.{Asked, classic, Sized, size, bad, assert_reg, value_size, compare_errors, len_errors, arity_errors, expr_errors, exprs_errors}
+use Rattle.rules.specs.Checking.{classic, size, assert_reg, value_size, compare_errors, len_errors, arity_errors, expr_errors, exprs_errors}
 use Rattle.items.specs.declared.nodes.Node.{Node}
-use Rattle.items.specs.declared.nodes.Node.TheVariants as node
 use Rattle.items.specs.Node.{operator, node_of, node_at, node_length}
 use Rattle.rules.specs.Syntax.{Expr, pi, one, two}
 use Rattle.views.specs.View.{on, name_in, leaf_in, leaf_past, expr_in, expr_past, exprs_in}
@@ -31,7 +29,7 @@ use Rattle.tables.specs.Tables.{gate_in, reg_in, param_in}
 use Rattle.asserts.specs.declared.Size.{Size}
 use Rattle.asserts.specs.declared.Walked.{Walked}
 use Rattle.asserts.specs.declared.Size.TheVariants as left
-use Rattle.asserts.specs.Sizes.{asked, size_left, len_kind, var_name, leaf_errors, Walks}
+use Rattle.asserts.specs.Sizes.{size_left, len_kind, var_name, leaf_errors, Walks}
 use Rattle.asserts.proofs.Matching.{left_bad, left_size}
 
 -- ---- counts

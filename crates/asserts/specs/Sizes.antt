@@ -1,17 +1,13 @@
 -- What the operand rule leaves: a size, or none after an error.
-use Rattle.std.specs.Prelude.{◌≡◌, refl, Bool, true, false, List, [], ◌∷◌, ℕ, ◌+◌, get_or, ltb, eqb}
-use Rattle.std.specs.Bool.{beq}
+use Rattle.std.specs.Prelude.{◌≡◌, Bool, true, false, List, [], ◌∷◌, ℕ, ◌+◌, get_or, eqb}
 use Rattle.rules.specs.declared.Operand.{Operand}
-use Rattle.rules.specs.declared.Reg.{Reg}
-use Rattle.rules.specs.declared.Found.{Found}
-use Rattle.rules.specs.declared.Found.TheVariants.{Row, Nothing}
 use Rattle.rules.specs.Basics.{pick}
 use Rattle.rules.specs.Errors.{Error, undefined_parameter, wrong_argument_arity, wrong_parameter_arity}
 use Rattle.rules.specs.Items.{le4}
 use Rattle.items.specs.declared.nodes.Node.{Node}
 use Rattle.items.specs.declared.nodes.Node.TheVariants.{Pi, Real, Int, Var, Add, Sub, Mul, Div, Pow, Neg, Sin, Cos, Tan, Exp, Ln, Sqrt}
 use Rattle.views.specs.View.{name_in, expr_in, expr_past}
-use Rattle.rules.specs.Checking.{Asked, Sized, size, bad, index_size, found_size, assert_reg, fixed, differs, expr_errors}
+use Rattle.rules.specs.Checking.{Asked, Sized, size, bad, assert_reg, fixed, differs, expr_errors}
 use Rattle.rules.specs.declared.Match.{Match}
 use Rattle.output.specs.declared.Sink.{Sink}
 use Rattle.output.specs.Sinks.{Said}

@@ -1,7 +1,7 @@
 -- Calls put into the rows, one after another.
 use mathlib.Core.Path.{◌≡◌, refl, sym, ap, ◌∙◌, subst}
 use mathlib.Core.Logic.{◌≢◌}
-use mathlib.Core.Bool.{Bool, true, false, not, ◌&&◌, ◌||◌, or-false, or-true, or_assoc, and-false}
+use mathlib.Core.Bool.{Bool, true, false, ◌&&◌, ◌||◌, or-false, or-true, or_assoc, and-false}
 use mathlib.Core.List.{List, [], ◌∷◌, ◌++◌}
 use Prim.Native.Nat.{ℕ, ◌+◌, ◌*◌, ◌≤◌, ◌<◌}
 use native.Mathlib.Decide.{ℕ_discrete}
@@ -15,7 +15,7 @@ use Rattle.rules.specs.declared.FoundGate.{FoundGate}
 use Rattle.rules.specs.declared.FoundGate.TheVariants.{Known, Unknown}
 use Rattle.rules.specs.Basics.{pick, first}
 use Rattle.rules.specs.Items.{le4}
-use Rattle.rules.specs.Syntax.{Gate, call}
+use Rattle.rules.specs.Syntax.{Gate}
 use Rattle.rules.specs.Checking.{gate_at, number_of, is_gate, header_of, header}
 use Rattle.rules.specs.Calls.{Call, stmt_calls, between, edge, earliest}
 use Rattle.theorems.specs.Search.{first_le, pick_same}

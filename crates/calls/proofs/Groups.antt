@@ -24,7 +24,7 @@ use Rattle.theorems.specs.Cycles.{cycle_chain}
 use Rattle.output.specs.declared.Sink.{Sink}
 use Rattle.output.specs.Sinks.{Said, put_none, Owes, owes_all, owes_less, owes_none}
 use Rattle.graph.specs.declared.Gates.{Gates}
-use Rattle.graph.specs.Rows.{calls, linked, listed}
+use Rattle.graph.specs.Rows.{linked, listed}
 use Rattle.calls.specs.Collecting.{Numbered, Has}
 use Rattle.calls.specs.Telling.{span_by, pairs_by, Defined, Shown}
 

@@ -1,31 +1,28 @@
 -- From what was counted and written to the answer of 01's table.
-use mathlib.Core.Path.{◌≡◌, refl, sym, ap, ap₂, ◌∙◌, subst}
-use mathlib.Core.List.{List, [], ◌∷◌, ◌++◌, map}
-use mathlib.Core.Bool.{Bool, true, false}
-use Prim.Native.Nat.{ℕ, zero, suc, ◌+◌, ◌≤◌, ◌<◌}
+use mathlib.Core.Path.{◌≡◌, refl, sym, ap₂, ◌∙◌}
+use mathlib.Core.List.{List, [], ◌++◌, map}
+use mathlib.Core.Bool.{true, false}
+use Prim.Native.Nat.{ℕ, ◌≤◌, ◌<◌}
 use native.Mathlib.Omega.{arith}
-use borrow.Author.Tests.{lt-ltb, le-ltb, eq-eqb, ne_eqb}
+use borrow.Author.Tests.{lt-ltb, le-ltb, ne_eqb}
 use lib.ListN.{length, take, drop, length-map}
 use lib.Seq.{take_at}
 use lib.Dec.{ltb, eqb}
 use Rattle.rules.specs.declared.Answer.{Answer}
 use Rattle.rules.specs.declared.Answer.TheVariants.{Done, Errors, Refused, Room}
-use Rattle.rules.specs.Basics.{pick}
-use Rattle.rules.specs.Errors.{Error, error_field}
+use Rattle.rules.specs.Errors.{error_field}
 use Rattle.rules.specs.Syntax.{Program}
 use Rattle.rules.specs.Grouping.{program, read}
 use Rattle.rules.specs.Calls.{errors}
-use Rattle.rules.specs.Answers.{Result, flat, lay, listed, check_read, check}
+use Rattle.rules.specs.Answers.{flat, lay, check_read, check}
 use Rattle.theorems.specs.Bounds.{errors_bytes, errors_count}
-use Rattle.output.specs.declared.Sink.{Sink}
 use Rattle.output.specs.Bytes.{most}
-use Rattle.output.specs.Sinks.{Said}
 use Rattle.image.specs.declared.Image.{Image}
 use Rattle.image.specs.declared.Verdict.{Verdict}
 use Rattle.image.specs.declared.Verdict.TheVariants as verdict
 use Rattle.image.specs.Whole.{Reads}
 use Rattle.checks.specs.declared.Judged.{Judged}
-use Rattle.checks.specs.Told.{start, All}
+use Rattle.checks.specs.Told.{All}
 use Rattle.checks.specs.Served.{Gives, Serves, served_refused, served_read, nil_of, laid}
 
 module _ (img o none none' : List ℕ) (j : Judged) (w : All img none none' j) (fits : length o ≤ most) where

@@ -1,14 +1,14 @@
 -- The passes one after another are the error list up to recursion.
 use mathlib.Core.Path.{◌≡◌, refl, sym, ap, ◌∙◌, subst, fun_ext}
-use mathlib.Core.List.{List, [], ◌∷◌, ◌++◌}
-use mathlib.Core.Bool.{Bool, true, false}
+use mathlib.Core.List.{List, [], ◌++◌}
+use mathlib.Core.Bool.{false}
 use Prim.Native.Nat.{ℕ, ◌≤◌}
 use native.Mathlib.Omega.{arith}
 use lib.ListN.{length}
-use Rattle.rules.specs.Errors.{Error, error_field}
+use Rattle.rules.specs.Errors.{error_field}
 use Rattle.rules.specs.Syntax.{Gate, Decl, Program}
 use Rattle.rules.specs.Grouping.{decls, group, program, read}
-use Rattle.rules.specs.Checking.{Scope, header, latest, registers, entries, gates_of, top_scope, decl_errors, reg_errors, top_errors, def_errors, local_errors}
+use Rattle.rules.specs.Checking.{Scope, header, latest, registers, entries, gates_of, top_scope, top_errors, local_errors}
 use Rattle.rules.specs.Calls.{edge, decl_calls, calls_of, recursion_errors, errors}
 use Rattle.theorems.specs.Words.{Within}
 use Rattle.theorems.specs.Callees.{calls_within}

@@ -6,7 +6,6 @@ use Rattle.std.proofs.lemmas.List.Edits.{sets, sets-eq}
 use Rattle.rules.specs.declared.Answer.{Answer}
 use Rattle.rules.specs.declared.Answer.TheVariants.{Refused}
 use Rattle.rules.specs.Syntax.{Program}
-use Rattle.rules.specs.Reading.{scan, Fields, refused, fields}
 use Rattle.rules.specs.Grouping.{Reading, refuses, program, group, grouped, read}
 use Rattle.rules.specs.Answers.{Result, unchanged}
 use Rattle.image.specs.declared.Image.{Image}

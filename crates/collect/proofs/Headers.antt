@@ -1,6 +1,6 @@
 -- One header's part in the collection of gates.
 use mathlib.Core.Path.{◌≡◌, refl, sym, ap, ◌∙◌, subst}
-use mathlib.Core.List.{List, [], ◌∷◌, ◌++◌, append-nil}
+use mathlib.Core.List.{List, [], ◌∷◌, ◌++◌}
 use mathlib.Core.Bool.{Bool, true, false}
 use mathlib.Core.Logic.{◌⊎◌, inl, inr, ⊎_elim}
 use Prim.Native.Nat.{ℕ, zero, suc, ◌+◌, ◌*◌, ◌<◌, ◌≤◌}
@@ -8,7 +8,7 @@ use native.Mathlib.Omega.{arith}
 use native.Mathlib.Decide.{ℕ_discrete, dec_lt}
 use native.Mathlib.Nat.{mod-lt, mul-suc}
 use native.Mathlib.Numerals.{add-one}
-use borrow.Author.Tests.{eq-eqb, ne_eqb, lt-ltb, ltb-true, ltb-false}
+use borrow.Author.Tests.{eq-eqb, ne_eqb, lt-ltb, ltb-true}
 use lib.ListN.{length, get_or, set, length-append, length-set, get_or-append}
 use lib.Seq.{get_or-append_seam, get_or-set_same, get_or-set_other}
 use lib.Dec.{T, eqb, ltb, eqb→eq, eqb_refl, lit<}
@@ -16,14 +16,13 @@ use Rattle.rules.specs.declared.Header.{Header}
 use Rattle.rules.specs.declared.FoundGate.{FoundGate}
 use Rattle.rules.specs.declared.FoundGate.TheVariants.{Known, Unknown}
 use Rattle.rules.specs.Basics.{pick, first, first_from}
-use Rattle.rules.specs.Errors.{Error, error_field, redefined_gate, redefined_argument, redefined_parameter}
+use Rattle.rules.specs.Errors.{error_field, redefined_gate}
 use Rattle.rules.specs.Items.{le2, le4}
 use Rattle.rules.specs.Reading.{load_at}
-use Rattle.rules.specs.Syntax.{Gate, Decl, Field}
-use Rattle.rules.specs.Grouping.{decls}
+use Rattle.rules.specs.Syntax.{Gate}
 use Rattle.rules.specs.Checking.{no_gate, gate_at, number_of, is_gate, header_of, header, entered, entries, repeats, header_errors, decl_errors}
 use Rattle.theorems.specs.Search.{first_true, first_least, first_hit, first_only}
-use Rattle.views.specs.View.{name_in, named_in, row_in, row_past, params_in, args_in, next_in, rest, rest_end}
+use Rattle.views.specs.View.{name_in, named_in, row_in, row_past, params_in, args_in, next_in, rest}
 use Rattle.views.specs.Steps.{then, inside_here, gate_here_lem, gate_at_place, gates_skip}
 use Rattle.output.specs.declared.Sink.{Sink}
 use Rattle.output.specs.Sinks.{Said, put_none, put_then, Owes, owes_all, owes_less, owes_none}
@@ -32,7 +31,7 @@ use Rattle.tables.specs.Zeros.{zeros_gate}
 use Rattle.collect.specs.declared.Turn.{Turn}
 use Rattle.collect.specs.declared.Counted.{Counted}
 use Rattle.collect.proofs.Registers.{none_left}
-use Rattle.collect.specs.Collected.{named_kind, left_regs, Holds, GateEntered, HeaderDone, DeclTurn, DeclMoves, GatesDone}
+use Rattle.collect.specs.Collected.{named_kind, left_regs, Holds, GateEntered, HeaderDone, DeclMoves, GatesDone}
 
 -- ---- one gate more
 

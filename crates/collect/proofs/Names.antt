@@ -1,13 +1,12 @@
 -- Repeated names and registers declared again: what each way out and each turn gives.
-use mathlib.Core.Path.{◌≡◌, refl, sym, ap, ◌∙◌, subst}
-use mathlib.Core.List.{List, [], ◌∷◌, ◌++◌, map, map-append, append-nil}
+use mathlib.Core.Path.{◌≡◌, refl, sym, ap, ◌∙◌}
+use mathlib.Core.List.{List, [], ◌∷◌, ◌++◌, map, map-append}
 use mathlib.Core.Bool.{Bool, true, false}
 use Prim.Native.Nat.{ℕ, zero, suc, ◌+◌, ◌-◌, ◌*◌, ◌<◌, ◌≤◌}
 use native.Mathlib.Omega.{arith}
 use native.Mathlib.Nat.{mul-suc}
 use native.Mathlib.Numerals.{add-one}
 use borrow.Author.Tests.{eq-eqb, ne_eqb}
-use lib.ListN.{length, get_or}
 use lib.Dec.{eqb}
 use Rattle.rules.specs.declared.Operand.{Operand}
 use Rattle.rules.specs.declared.Reg.{Reg}
@@ -18,10 +17,9 @@ use Rattle.rules.specs.Errors.{Error, error_field, zero_size_register, redefined
 use Rattle.rules.specs.Items.{le4}
 use Rattle.rules.specs.Syntax.{Named}
 use Rattle.rules.specs.Checking.{argument, later, latest, repeated, repeats, size_of, redeclared}
-use Rattle.views.specs.View.{name_in, operand_in, named_in, row_in}
+use Rattle.views.specs.View.{name_in, named_in, row_in}
 use Rattle.output.specs.declared.Sink.{Sink}
-use Rattle.output.specs.Sinks.{Said, put_none, put_then, Owes, owes_less}
-use Rattle.tables.specs.Tables.{reg_in}
+use Rattle.output.specs.Sinks.{Said, put_none, put_then}
 use Rattle.collect.specs.Collected.{named_kind, reg_errors_by, kind_of}
 
 -- ---- registers

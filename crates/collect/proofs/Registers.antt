@@ -1,32 +1,30 @@
 -- One field's part in the collection of registers.
 use mathlib.Core.Path.{◌≡◌, refl, sym, ap, ◌∙◌, subst}
 use mathlib.Core.List.{List, [], ◌∷◌, ◌++◌, append_assoc, append-nil}
-use mathlib.Core.Bool.{Bool, true, false, ◌||◌}
+use mathlib.Core.Bool.{Bool, true, false}
 use Prim.Native.Nat.{ℕ, ◌+◌, ◌<◌, ◌≤◌}
 use native.Mathlib.Omega.{arith}
 use native.Mathlib.Decide.{ℕ_discrete}
 use native.Mathlib.Nat.{mod-lt}
-use borrow.Author.Tests.{eq-eqb, ne_eqb, eqb-true}
+use borrow.Author.Tests.{ne_eqb, eqb-true}
 use lib.ListN.{length, get_or, length-append}
 use lib.Dec.{T, eqb, lit<}
 use Rattle.rules.specs.declared.Operand.{Operand}
 use Rattle.rules.specs.declared.Reg.{Reg}
-use Rattle.rules.specs.declared.Found.{Found}
-use Rattle.rules.specs.declared.Found.TheVariants.{Row, Nothing}
+use Rattle.rules.specs.declared.Found.TheVariants.{Row}
 use Rattle.rules.specs.Basics.{pick}
-use Rattle.rules.specs.Errors.{Error, error_field}
+use Rattle.rules.specs.Errors.{error_field}
 use Rattle.rules.specs.Items.{le2, le4}
 use Rattle.rules.specs.Reading.{is_reg, load_at}
-use Rattle.rules.specs.Syntax.{Decl, reg}
 use Rattle.rules.specs.Grouping.{decls}
 use Rattle.rules.specs.Checking.{latest, register, size_of, registers, register_errors, reg_errors}
-use Rattle.views.specs.View.{name_in, operand_in, next_in, rest, rest_end}
+use Rattle.views.specs.View.{operand_in, next_in, rest, rest_end}
 use Rattle.views.specs.Steps.{then, inside_here, reg_here_lem, regs_skip}
 use Rattle.output.specs.declared.Sink.{Sink}
 use Rattle.output.specs.Sinks.{Said, put_none, Owes, owes_all, owes_less, owes_none}
 use Rattle.tables.specs.Tables.{reg_in, param_in, row_set, row_set_length, reg_set, reg_set_param}
 use Rattle.collect.specs.declared.Turn.{Turn}
-use Rattle.collect.specs.Collected.{reg_errors_by, kind_of, Finds, left_regs, RegTurn, RegMoves, RegsDone}
+use Rattle.collect.specs.Collected.{reg_errors_by, kind_of, Finds, left_regs, RegMoves, RegsDone}
 use Rattle.collect.proofs.Names.{latest_snoc}
 use Rattle.tables.specs.Zeros.{zeros_reg, zeros_param}
 

@@ -19,10 +19,10 @@ use Rattle.rules.specs.declared.FoundGate.TheVariants.{Known, Unknown}
 use Rattle.rules.specs.Basics.{pick}
 use Rattle.rules.specs.Reading.{is_stmt, load_at}
 use Rattle.rules.specs.Grouping.{stmts}
-use Rattle.rules.specs.Syntax.{Stmt, call}
+use Rattle.rules.specs.Syntax.{Stmt}
 use Rattle.rules.specs.Checking.{quantum, Sized, size, bad, assert_reg, register}
 use Rattle.rules.specs.Run.{size_only, common, bits_of}
-use Rattle.theorems.specs.Count.{sum, call_count, at}
+use Rattle.theorems.specs.Count.{sum, call_count}
 use Rattle.theorems.specs.Counted.{min_mul}
 use Rattle.views.specs.View.{name_in, operand_in, row_in, u_in, barrier_in, call_in, stmt_in, next_in, rest}
 use Rattle.views.specs.Steps.{then}

@@ -13,7 +13,6 @@ use Rattle.rules.specs.declared.Answer.{Answer}
 use Rattle.rules.specs.declared.Answer.TheVariants.{Done, Machine, Entries, Room}
 use Rattle.rules.specs.declared.Reg.{Reg}
 use Rattle.rules.specs.Basics.{pick}
-use Rattle.rules.specs.Grouping.{program}
 use Rattle.rules.specs.Checking.{registers}
 use Rattle.rules.specs.Run.{Entry, entry_field, bits_of, tops}
 use Rattle.rules.specs.Answers.{flat, lay}

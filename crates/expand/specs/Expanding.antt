@@ -17,7 +17,7 @@ use Rattle.rules.specs.Basics.{pick}
 use Rattle.rules.specs.Reading.{len_at, load_at}
 use Rattle.rules.specs.Syntax.{Gate, Decl, Program}
 use Rattle.rules.specs.Grouping.{program, read, decls, group}
-use Rattle.rules.specs.Checking.{gate_at, gates_of, header, latest, registers, top_scope, size}
+use Rattle.rules.specs.Checking.{gate_at, gates_of, header, latest, registers, top_scope}
 use Rattle.rules.specs.Calls.{errors}
 use Rattle.rules.specs.Order.{order_of}
 use Rattle.rules.specs.Run.{Entry, entry_field, done, bits_of, tops, Place, run_gate, top_place, run_at, run_of}

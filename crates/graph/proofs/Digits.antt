@@ -1,6 +1,6 @@
 -- The binary digits of words: of a union, of a power, of words with a digit in common; then of sets.
 use mathlib.Core.Path.{◌≡◌, refl, sym, ap, ◌∙◌, subst}
-use mathlib.Core.Bool.{Bool, false, not, ◌||◌}
+use mathlib.Core.Bool.{Bool, false, ◌||◌}
 use Prim.Native.Nat.{ℕ, zero, suc, ◌/◌, ◌%◌, ◌^◌, ◌<◌, max}
 use native.Mathlib.Nat.{pow-suc, div-one}
 use native.Mathlib.Decide.{ℕ_discrete}

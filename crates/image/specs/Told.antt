@@ -5,7 +5,6 @@ use Rattle.rules.specs.Syntax.{Field}
 use Rattle.rules.specs.Reading.{Fields, refused, fields, scan}
 use Rattle.rules.specs.Grouping.{names}
 use Rattle.image.specs.declared.Image.{Image}
-use Rattle.image.specs.declared.Verdict.{Verdict}
 use Rattle.image.specs.declared.Verdict.TheVariants.{Read, Refused}
 use Rattle.image.specs.Table.{names_of}
 use Rattle.image.specs.Whole.{counts_of, refusal, image_of, names_in, Reads}

@@ -1,11 +1,11 @@
 -- From the gates listed to the answer of 01's table.
 use mathlib.Core.Path.{◌≡◌, refl, sym, ap, ap₂, ◌∙◌, subst}
-use mathlib.Core.List.{List, [], ◌∷◌, ◌++◌, map}
-use mathlib.Core.Bool.{Bool, true, false}
-use Prim.Native.Nat.{ℕ, zero, suc, ◌+◌, ◌-◌, ◌%◌, ◌≤◌, ◌<◌}
+use mathlib.Core.List.{List, [], ◌∷◌, map}
+use mathlib.Core.Bool.{true, false}
+use Prim.Native.Nat.{ℕ, suc, ◌+◌, ◌-◌, ◌%◌, ◌≤◌, ◌<◌}
 use native.Mathlib.Omega.{arith}
 use native.Mathlib.Numerals.{add-one}
-use borrow.Author.Tests.{lt-ltb, le-ltb, eq-eqb, ne_eqb}
+use borrow.Author.Tests.{lt-ltb, le-ltb, ne_eqb}
 use lib.ListN.{length, get_or, take, drop, length-map, drop_of_length-le}
 use lib.Seq.{sets, drop-cons, take_all}
 use lib.Dec.{ltb, eqb}
@@ -14,10 +14,10 @@ use Rattle.rules.specs.declared.Answer.TheVariants.{Done, Refused, Rejected, Roo
 use Rattle.rules.specs.Syntax.{Program, Gate}
 use Rattle.rules.specs.Grouping.{program, read}
 use Rattle.rules.specs.Checking.{gates_of}
-use Rattle.rules.specs.Calls.{errors, edge, calls_of}
+use Rattle.rules.specs.Calls.{errors, edge}
 use Rattle.rules.specs.Order.{order_of}
 use Rattle.rules.specs.Order as rule
-use Rattle.rules.specs.Answers.{Result, flat, lay, order_read, order}
+use Rattle.rules.specs.Answers.{flat, lay, order_read, order}
 use Rattle.theorems.specs.Bounds.{errors_count}
 use Rattle.theorems.specs.Words.{Within}
 use Rattle.theorems.specs.Promises.{order_callees_first}

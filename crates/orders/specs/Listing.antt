@@ -1,6 +1,6 @@
 -- What the listing of a program's gates leaves.
 use Rattle.std.specs.Prelude.{◌≡◌, List, [], ℕ, ◌%◌, ◌≤◌, length}
-use Rattle.std.proofs.Common.{◌∙◌, arith}
+use Rattle.std.proofs.Common.{arith}
 use Rattle.rules.specs.Syntax.{Program}
 use Rattle.rules.specs.Grouping.{program, read}
 use Rattle.rules.specs.Checking.{gates_of, header}

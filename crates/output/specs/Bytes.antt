@@ -1,6 +1,6 @@
 -- What writing bytes at a place of a lent buffer leaves. A place stops at the largest number, which no buffer reaches, so that a count never wraps and
 -- no writer demands room; that a program's list stays below it is shown once, for the whole.
-use Rattle.std.specs.Prelude.{◌≡◌, refl, List, [], ◌∷◌, ◌++◌, ℕ, suc, ◌+◌, ◌≤◌, ◌<◌, min, max, length, set}
+use Rattle.std.specs.Prelude.{◌≡◌, refl, List, [], ◌∷◌, ◌++◌, ℕ, suc, ◌+◌, ◌≤◌, min, max, length, set}
 use Rattle.std.proofs.Common.{ap, sym, ◌∙◌, add-zero, add-suc, suc-add, arith, length-append, length-set}
 use Rattle.std.proofs.Math.Decide.{dec_le}
 use Rattle.std.proofs.lemmas.List.Edits.{sets}

@@ -1,11 +1,11 @@
 -- Fields written one after another and counted: errors, and the entries of a run. `w` gives the bytes of one.
-use Rattle.std.specs.Prelude.{◌≡◌, refl, ℕ, ◌+◌, ◌≤◌, ◌<◌, length}
-use Rattle.std.proofs.Common.{ap, sym, ◌∙◌, subst, length-append}
+use Rattle.std.specs.Prelude.{◌≡◌, refl, ℕ, length}
+use Rattle.std.proofs.Common.{ap, sym, ◌∙◌, length-append}
 use mathlib.Core.List.{List, [], ◌∷◌, ◌++◌, map, append_assoc, append-nil, map-append}
 use native.Mathlib.Omega.{arith}
 use Rattle.rules.specs.Errors.{Error, error_field}
 use Rattle.rules.specs.Answers.{flat}
-use Rattle.output.specs.Bytes.{most, plus, Wrote, wrote_none, wrote_then}
+use Rattle.output.specs.Bytes.{plus, Wrote, wrote_none, wrote_then}
 use Rattle.output.specs.declared.Sink.{Sink}
 
 flat_append : (a b : List (List ℕ)) → flat (a ++ b) ≡ flat a ++ flat b

@@ -1,21 +1,21 @@
 -- What one turn of each pass gives.
-use mathlib.Core.Path.{◌≡◌, refl, sym, ap, ◌∙◌, subst}
-use mathlib.Core.List.{List, [], ◌∷◌, ◌++◌, map}
+use mathlib.Core.Path.{◌≡◌, refl, sym, ap, ◌∙◌}
+use mathlib.Core.List.{List, [], ◌++◌}
 use mathlib.Core.Bool.{Bool, true, false, not}
-use Prim.Native.Nat.{ℕ, ◌+◌, ◌<◌, ◌≤◌}
+use Prim.Native.Nat.{ℕ, ◌<◌, ◌≤◌}
 use native.Mathlib.Omega.{arith}
-use borrow.Author.Tests.{ne_eqb, eq-eqb}
+use borrow.Author.Tests.{ne_eqb}
 use lib.ListN.{length, get_or}
-use lib.Dec.{T, eqb}
+use lib.Dec.{eqb}
 use Rattle.rules.specs.Errors.{Error, error_field}
 use Rattle.rules.specs.Reading.{is_stmt, load_at}
-use Rattle.rules.specs.Syntax.{Stmt, Decl, Gate}
+use Rattle.rules.specs.Syntax.{Gate}
 use Rattle.rules.specs.Grouping.{stmt, stmts, body_of, decls}
 use Rattle.rules.specs.Checking.{Scope, body_scope, stmt_errors, stmts_errors, top_errors, body_errors, def_errors}
 use Rattle.views.specs.View.{next_in, rest, rest_end}
-use Rattle.views.specs.Steps.{after, then, top_here, stmt_here, body_end, body_skip, inside_here, gate_here_lem, gate_at_place, other_here, gates_skip}
+use Rattle.views.specs.Steps.{then, top_here, stmt_here, body_end, body_skip, inside_here, gate_here_lem, gate_at_place, other_here, gates_skip}
 use Rattle.output.specs.declared.Sink.{Sink}
-use Rattle.output.specs.Sinks.{Said, put_none, Owes, owes_less, owes_none}
+use Rattle.output.specs.Sinks.{put_none, Owes, owes_less}
 use Rattle.tables.specs.Tables.{scope_in}
 use Rattle.typing.specs.declared.Checked.{Checked}
 use Rattle.typing.specs.Checked.{Done}

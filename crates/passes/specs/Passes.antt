@@ -2,7 +2,7 @@
 use Rattle.std.specs.Prelude.{◌≡◌, List, [], ◌∷◌, ◌++◌, map, Bool, true, false, ℕ, ◌<◌, ◌≤◌, length, eqb}
 use Rattle.rules.specs.declared.Reg.{Reg}
 use Rattle.rules.specs.declared.Found.{Found}
-use Rattle.rules.specs.declared.Found.TheVariants.{Row, Nothing}
+use Rattle.rules.specs.declared.Found.TheVariants.{Row}
 use Rattle.rules.specs.Basics.{pick}
 use Rattle.rules.specs.Errors.{Error}
 use Rattle.rules.specs.Syntax.{Named, Gate}

@@ -1,13 +1,13 @@
 -- 01's specimens marked P, as one table and one statement over it; and a second table of what the builds that 01 warns of would get wrong.
-use Rattle.std.specs.Prelude.{ℕ, zero, suc, ◌+◌, ◌≡◌, refl, List, [], ◌∷◌, ◌++◌, map, Bool, true, false, length}
+use Rattle.std.specs.Prelude.{ℕ, suc, ◌+◌, ◌≡◌, refl, List, [], ◌∷◌, ◌++◌, map, true, false, length}
 use Rattle.rules.specs.declared.Operand.{Operand}
 use Rattle.rules.specs.declared.Answer.{Answer}
-use Rattle.rules.specs.declared.Answer.TheVariants.{Done, Errors, Refused, Rejected, Machine, Entries, Room}
+use Rattle.rules.specs.declared.Answer.TheVariants.{Done, Errors}
 use Rattle.rules.specs.Basics.{first, first_from, any}
 use Rattle.rules.specs.Items.{times, byte, word2, word4, word8, span, name, flag, count, operand, named, opcode, leaf, node, expr}
 use Rattle.rules.specs.Reading.{same_bytes, among, fresh, name_field, include_field, reg_field, gate_lists, gate_field, u_field, pair_field, reset_field, barrier_field, call_lists, call_field, if_field, items, payload, placed, within, next, names_then, field, more, from, scan}
 use Rattle.rules.specs.Grouping.{stmt, stmts, open_after, decls, names, group, grouped, read}
-use Rattle.rules.specs.Errors.{Error, redefined_gate, redefined_parameter, recursive_definition, zero_size_register, undefined_parameter, invalid_comparison_size, wrong_argument_arity, wrong_operand_size, undefined_register, bytes2, bytes4, bytes8, bit, operand_bytes, pair_bytes, tagged, error_field}
+use Rattle.rules.specs.Errors.{Error, redefined_gate, redefined_parameter, recursive_definition, zero_size_register, undefined_parameter, invalid_comparison_size, wrong_argument_arity, wrong_operand_size, undefined_register, bytes2, bytes4, bytes8, operand_bytes, pair_bytes, tagged, error_field}
 use Rattle.rules.specs.Checking.{number_of, is_gate, header, entered, entries, gates_of, latest, registers, top_scope, body_scope, is_param, repeats, decl_errors, register_errors, reg_errors, assert_reg, operand_errors, match_errors, expr_errors, exprs_errors, value_size, compare_errors, stmt_errors, stmts_errors, top_errors, def_errors, local_errors}
 use Rattle.rules.specs.Graph.{walks, reaches, leads, those, leaders, way, cycle}
 use Rattle.rules.specs.Calls.{stmt_calls, stmts_calls, decl_calls, calls_of, edge, earliest, pairs, group_error, recursion_errors, errors}

@@ -1,5 +1,5 @@
 -- What each service answers and leaves in the lent buffer, from the image and the buffer at entry alone.
-use Rattle.std.specs.Prelude.{ℕ, ◌+◌, List, [], ◌∷◌, ◌++◌, map, Bool, true, false, ◌||◌, length, drop, ltb, eqb}
+use Rattle.std.specs.Prelude.{ℕ, List, [], ◌∷◌, ◌++◌, map, Bool, true, false, ◌||◌, length, drop, ltb, eqb}
 use Rattle.rules.specs.declared.Answer.{Answer}
 use Rattle.rules.specs.declared.Answer.TheVariants.{Done, Errors, Refused, Rejected, Machine, Entries, Room}
 use Rattle.rules.specs.Basics.{pick}

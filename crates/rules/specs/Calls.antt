@@ -1,7 +1,6 @@
 -- The calls of a program, and the recursion errors: the last part of the error list.
-use Rattle.std.specs.Prelude.{ℕ, List, [], ◌∷◌, ◌++◌, map, Bool, true, false, ◌&&◌, ◌||◌, length, eqb}
+use Rattle.std.specs.Prelude.{ℕ, List, [], ◌∷◌, ◌++◌, map, Bool, false, ◌&&◌, ◌||◌, length, eqb}
 use Rattle.std.proofs.Math.Option.{Option, none, some}
-use Rattle.rules.specs.declared.Operand.{Operand}
 use Rattle.rules.specs.Basics.{pick}
 use Rattle.rules.specs.Syntax.{Stmt, u, cx, measure, reset, barrier, call, if, missing, Gate, Decl, include, reg, gate, top, Program}
 use Rattle.rules.specs.Errors.{Error, recursive_definition}

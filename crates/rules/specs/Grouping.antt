@@ -1,9 +1,8 @@
 -- The program that the fields of an image make up: a gate with its body's statements, an IF with what it governs. Nothing is refused here.
 use Rattle.std.specs.Prelude.{ℕ, List, [], ◌∷◌, Bool, true, false}
 use Rattle.std.proofs.Math.Option.{Option, none, some}
-use Rattle.rules.specs.declared.Operand.{Operand}
 use Rattle.rules.specs.Basics.{pick}
-use Rattle.rules.specs.Syntax.{Named, Stmt, if, missing, Gate, Decl, include, reg, gate, top, Program, Field, name_f, include_f, reg_f, gate_f, end_f, stmt_f, if_f}
+use Rattle.rules.specs.Syntax.{Stmt, if, missing, Decl, include, reg, gate, top, Program, Field, name_f, include_f, reg_f, gate_f, end_f, stmt_f, if_f}
 use Rattle.rules.specs.Reading.{Fields, refused, fields, scan}
 
 -- The statement that a list of fields begins with. 01: "IF governs the field right after it".

@@ -1,5 +1,5 @@
 -- The gates, callees first.
-use Rattle.std.specs.Prelude.{ℕ, zero, suc, List, [], ◌∷◌, ◌++◌, Bool, true, false, not, ◌&&◌, length, get_or, ltb, eqb}
+use Rattle.std.specs.Prelude.{ℕ, zero, suc, List, [], ◌∷◌, ◌++◌, Bool, not, ◌&&◌, length, get_or, ltb, eqb}
 use Rattle.rules.specs.Basics.{pick, first, any}
 use Rattle.rules.specs.Syntax.{Program}
 use Rattle.rules.specs.Checking.{gates_of}

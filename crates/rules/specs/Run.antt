@@ -1,13 +1,13 @@
 -- The run of a program: its entries, or stuck.
-use Rattle.std.specs.Prelude.{ℕ, zero, suc, ◌+◌, ◌^◌, List, [], ◌∷◌, ◌++◌, map, Bool, true, false, not, ◌&&◌, ◌||◌, length, get_or, ltb, leb, eqb}
+use Rattle.std.specs.Prelude.{ℕ, zero, suc, ◌+◌, ◌^◌, List, [], ◌∷◌, ◌++◌, map, Bool, true, false, ◌&&◌, ◌||◌, length, get_or, ltb, leb, eqb}
 use Rattle.std.proofs.Math.Option.{Option, none, some}
 use Rattle.rules.specs.declared.Operand.{Operand}
 use Rattle.rules.specs.declared.FoundGate.{FoundGate}
 use Rattle.rules.specs.declared.FoundGate.TheVariants.{Known, Unknown}
 use Rattle.rules.specs.declared.Reg.{Reg}
 use Rattle.rules.specs.Basics.{pick}
-use Rattle.rules.specs.Syntax.{Expr, pi, real, int, var, two, one, Named, Stmt, u, cx, measure, reset, barrier, call, if, missing, Gate, Decl, include, reg, gate, top, Program}
-use Rattle.rules.specs.Errors.{Error, bytes2, bytes4, bytes8, tagged}
+use Rattle.rules.specs.Syntax.{Expr, pi, real, int, var, two, one, Stmt, u, cx, measure, reset, barrier, call, if, missing, Gate, Decl, include, reg, gate, top, Program}
+use Rattle.rules.specs.Errors.{bytes2, bytes4, bytes8, tagged}
 use Rattle.rules.specs.Checking.{gate_at, gates_of, argument, registers, Scope, top_scope, body_scope, Asked, quantum, classic, Sized, size, bad, assert_reg}
 
 -- ---- entries. 01: "Entries are fields: 32 U qubit; 33 CX two; 34 MEASURE qubit, bit; 35 RESET qubit; 36 one barrier qubit each, .. then 37 empty;

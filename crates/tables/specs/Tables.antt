@@ -1,14 +1,13 @@
 -- Tables by name number: four words a name, 512 names. What stands in one is what a name means, for any words.
 use Rattle.std.specs.Prelude.{◌≡◌, Bool, true, false, ◌⊎◌, length, get_or, set, eqb, ltb}
 use Rattle.std.proofs.Math.Path.{refl}
-use Rattle.std.proofs.Common.{sym, ap, ◌∙◌, ⊎_elim, add-zero, length-set, lit<, lit≤}
+use Rattle.std.proofs.Common.{ap, ◌∙◌, ⊎_elim, add-zero, length-set, lit<, lit≤}
 use mathlib.Core.List.{List, [], ◌∷◌}
 use Rattle.std.proofs.Math.Logic.{inl, inr}
 use Prim.Native.Nat.{ℕ, zero, suc, ◌+◌, ◌-◌, ◌*◌, ◌<◌, ◌≤◌}
 use native.Mathlib.Omega.{arith}
 use Rattle.std.proofs.Math.Decide.{ℕ_discrete, dec_lt}
 use borrow.Author.Tests.{eq-eqb, ne_eqb, lt-ltb}
-use Rattle.std.proofs.Math.ListN.{get_or-eq_default}
 use Rattle.std.proofs.lemmas.List.Edits.{sets}
 use Rattle.std.proofs.Math.Seq.{length-sets, get_or-set_same, get_or-set_other}
 use Rattle.rules.specs.declared.Header.{Header}

@@ -6,9 +6,8 @@ use Rattle.std.proofs.Common.{arith}
 use Rattle.std.proofs.Math.Decide.{dec_lt}
 use Rattle.std.proofs.lemmas.List.{length-replicate, get_or-replicate}
 use Rattle.std.proofs.Math.ListN.{get_or-eq_default}
-use Rattle.rules.specs.declared.FoundGate.{FoundGate}
-use Rattle.rules.specs.declared.FoundGate.TheVariants.{Known, Unknown}
-use Rattle.rules.specs.declared.Found.TheVariants.{Row, Nothing}
+use Rattle.rules.specs.declared.FoundGate.TheVariants.{Unknown}
+use Rattle.rules.specs.declared.Found.TheVariants.{Nothing}
 use Rattle.rules.specs.Basics.{pick}
 use Rattle.tables.specs.Tables.{gate_in, reg_in, param_in}
 

@@ -6,17 +6,16 @@ use Prim.Native.Nat.{ℕ, zero, suc, ◌+◌, ◌*◌, ◌<◌, ◌≤◌}
 use native.Mathlib.Omega.{arith}
 use native.Mathlib.Nat.{mul-suc}
 use borrow.Author.Tests.{ne_eqb, le-leb, lt-leb, leb-true}
-use lib.ListN.{length, get_or, length-map}
-use lib.Dec.{T, eqb, leb}
+use lib.ListN.{length, get_or}
+use lib.Dec.{T, leb}
 use Rattle.rules.specs.declared.Operand.{Operand}
-use Rattle.rules.specs.Basics.{pick}
 use Rattle.rules.specs.Items.{le4, le8}
-use Rattle.rules.specs.Errors.{Error, error_field}
+use Rattle.rules.specs.Errors.{error_field}
 use Rattle.rules.specs.Reading.{is_stmt, load_at}
 use Rattle.rules.specs.Grouping.{stmt}
-use Rattle.rules.specs.Syntax.{Stmt, u, cx, measure, reset, barrier, call}
-use Rattle.rules.specs.Checking.{Scope, Asked, quantum, classic, assert_reg, sized_errors, operand_errors, unfixed, match_errors, exprs_errors, compare_errors, arity_errors, stmt_errors}
-use Rattle.views.specs.View.{name_in, operand_in, row_in, row_past, expr_past, exprs_in, u_in, barrier_in, call_in, stmt_in, is_plain, next_in, rest, rest_end}
+use Rattle.rules.specs.Syntax.{Stmt, cx, measure, reset}
+use Rattle.rules.specs.Checking.{quantum, classic, assert_reg, sized_errors, operand_errors, unfixed, match_errors, exprs_errors, compare_errors, arity_errors, stmt_errors}
+use Rattle.views.specs.View.{name_in, operand_in, row_in, row_past, expr_past, exprs_in, u_in, barrier_in, call_in, stmt_in, is_plain, next_in, rest_end}
 use Rattle.views.specs.Steps.{after, plain_stmt, none_stmt, if_stmt}
 use Rattle.output.specs.declared.Sink.{Sink}
 use Rattle.output.specs.Sinks.{Said, put_none, put_then, put_same}

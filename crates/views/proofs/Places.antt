@@ -1,14 +1,13 @@
 -- Reading at a place that stopped at the end.
-use Prim.Native.Nat.{ℕ, ◌+◌, ◌-◌, ◌*◌, ◌%◌, ◌<◌, ◌≤◌, min}
+use Prim.Native.Nat.{ℕ, ◌+◌, ◌-◌, ◌%◌, ◌<◌, ◌≤◌, min}
 use native.Mathlib.Omega.{arith}
 use native.Mathlib.Decide.{dec_le}
 use mathlib.Core.Path.{◌≡◌, refl, sym, ap, ◌∙◌}
-use mathlib.Core.List.{List, [], ◌∷◌}
+use mathlib.Core.List.{List, []}
 use mathlib.Core.Bool.{Bool}
 use lib.ListN.{length, get_or, take, drop, drop_of_length-le, length-drop, get_or-eq_default}
 use lib.Seq.{take_all, take-nil}
 use lib.Dec.{eqb}
-use Rattle.rules.specs.declared.Operand.{Operand}
 use Rattle.rules.specs.Items.{le2, le4, le8}
 use Rattle.rules.specs.Reading.{load_at, len_at}
 use Rattle.views.specs.View.{name_in, operand_in, past, next_in}

@@ -1,18 +1,15 @@
 -- An image that is read is what it is taken to be: the program read is the one that the views give.
-use Prim.Native.Nat.{ℕ, zero, suc, ◌+◌, ◌-◌, ◌*◌, ◌<◌, ◌≤◌}
+use Prim.Native.Nat.{ℕ, zero, suc, ◌+◌, ◌-◌, ◌<◌, ◌≤◌}
 use Rattle.std.proofs.Common.{arith, sym, ap, ◌∙◌, subst, mod-eq_of_lt, eqb-true, leb-true, lt-ltb, ltb-true, lit≤, lit<}
-use Rattle.std.specs.Prelude.{◌≡◌, refl, List, [], ◌∷◌, Bool, true, false, not, ◌&&◌, ◌||◌, length, get_or, T, ltb, leb, eqb}
+use Rattle.std.specs.Prelude.{◌≡◌, refl, List, [], ◌∷◌, Bool, true, false, ◌||◌, length, get_or, T, ltb, leb, eqb}
 use Rattle.rules.specs.declared.Operand.{Operand}
 use Rattle.rules.specs.declared.Counts.{Counts}
-use Rattle.rules.specs.declared.Num.{Num}
 use Rattle.rules.specs.declared.Num.TheVariants as num
-use Rattle.rules.specs.declared.Opd.{Opd}
-use Rattle.rules.specs.declared.Opd.TheVariants as opd
 use Rattle.rules.specs.Basics.{pick}
-use Rattle.rules.specs.Syntax.{Expr, pi, real, int, var, two, one, Named, Stmt, u, cx, measure, reset, barrier, call, Field, name_f, include_f, reg_f, gate_f, end_f, stmt_f, if_f, Program}
+use Rattle.rules.specs.Syntax.{Expr, two, one, Stmt, cx, measure, reset, Field, name_f, include_f, reg_f, end_f, stmt_f, Program}
 use Rattle.rules.specs.Items.{Got, no, got, bind, times, a, an, got_num, as_num, got_opd, as_opd, fit, byte, word2, word4, word8, le2, le4, le8, span, name, flag, count, operand, indexed, named, opcode, leaf, node, expr}
 use Rattle.rules.specs.Reading.{fresh, name_field, include_field, reg_field, gate_lists, gate_field, u_field, pair_field, reset_field, barrier_field, call_lists, call_field, if_field, items, payload, placed, within, field, whole, from, more, next, names_then, either, start, scan, len_at, load_at, Fields, refused, fields}
-use Rattle.rules.specs.Grouping.{group, Reading, refuses, program, grouped, read}
+use Rattle.rules.specs.Grouping.{group, program, grouped, read}
 use Rattle.views.specs.View.{name_in, on, operand_in, named_in, row_in, row_past, leaf_in, leaf_past, expr_in, expr_past, exprs_in, exprs_past, u_in, barrier_in, call_in, params_in, args_in, gate_in, if_in, stmt_in, field_in, field_at, past, rest, rest_end, rest_more, program_in}
 use Rattle.views.specs.Tags.{Unknown, by_tag}
 

@@ -1,13 +1,12 @@
 -- A program that is read has at most 128 gates.
 use Rattle.std.specs.Prelude.{ℕ, zero, suc, ◌+◌, ◌<◌, ◌≤◌, ◌≡◌, refl, List, [], ◌∷◌, ◌++◌, Bool, true, false, ◌||◌, length, get_or, ltb, leb, eqb}
-use Rattle.std.proofs.Common.{arith, le_refl, sym, ap, ◌∙◌, subst, ltb-true, leb-true, eqb-true, length-append, lit≤}
+use Rattle.std.proofs.Common.{arith, ap, ◌∙◌, ltb-true, leb-true, eqb-true, length-append, lit≤}
 use Rattle.rules.specs.declared.Counts.{Counts}
-use Rattle.rules.specs.declared.Operand.{Operand}
 use Rattle.rules.specs.Basics.{pick}
 use Rattle.rules.specs.Items.{Got, no, got}
-use Rattle.rules.specs.Reading.{is_reg, within, next, field, either, more, from, names_then, start, scan, load_at, Fields, refused, fields}
-use Rattle.rules.specs.Syntax.{Stmt, if, Gate, Decl, Program, Field, name_f, include_f, reg_f, gate_f, end_f, stmt_f, if_f}
-use Rattle.rules.specs.Grouping.{stmt, body_of, decls, open_after, group, grouped, program, read}
+use Rattle.rules.specs.Reading.{within, next, field, either, more, from, names_then, start, scan, load_at, refused, fields}
+use Rattle.rules.specs.Syntax.{Gate, Program, Field, name_f, include_f, reg_f, gate_f, end_f, stmt_f, if_f}
+use Rattle.rules.specs.Grouping.{body_of, decls, open_after, group, program, read}
 use Rattle.rules.specs.Checking.{is_gate, entered, entries, gates_of}
 use Rattle.views.specs.View.{gate_in, if_in, field_in, field_at}
 use Rattle.views.specs.Tags.{by_kind}

@@ -1,5 +1,5 @@
 -- The program that a list of fields begins with, one field or statement at a time. None of these laws asks for a good image.
-use Rattle.std.specs.Prelude.{ℕ, zero, suc, ◌+◌, ◌*◌, ◌<◌, ◌≤◌, ◌≡◌, List, [], ◌∷◌, Bool, not, length, get_or, eqb, leb}
+use Rattle.std.specs.Prelude.{ℕ, ◌<◌, ◌≤◌, ◌≡◌, List, [], ◌∷◌, Bool, not, length, get_or, eqb, leb}
 use Rattle.std.proofs.Common.{arith, sym, ◌∙◌, subst, leb-true, le-leb, ne_eqb}
 use Rattle.std.proofs.Math.Path.{refl, ap}
 use Rattle.std.proofs.Math.Bool.{true, false}
@@ -10,8 +10,8 @@ use Rattle.rules.specs.Items.{le4, le8}
 use Rattle.rules.specs.Reading.{load_at, is_stmt}
 use Rattle.rules.specs.Syntax.{Stmt, if, missing, Gate, Decl, include, reg, gate, top, Field, name_f, include_f, reg_f, gate_f, end_f, stmt_f, if_f}
 use Rattle.rules.specs.Grouping.{stmt, stmts, body_of, decls, open_after}
-use Rattle.views.specs.View.{name_in, operand_in, params_in, args_in, gate_in, if_in, stmt_in, is_plain, field_in, field_at, next_in, rest, rest_end, rest_next}
-use Rattle.views.specs.Tags.{Unknown, by_kind}
+use Rattle.views.specs.View.{name_in, operand_in, params_in, args_in, gate_in, if_in, stmt_in, is_plain, field_in, field_at, next_in, rest, rest_next}
+use Rattle.views.specs.Tags.{by_kind}
 
 -- the fields after the statement that a list begins with; all of them where it begins with none
 unfoldable pub after : List Field → List Field

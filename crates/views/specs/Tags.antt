@@ -1,10 +1,9 @@
 -- To know something of every tag.
-use Rattle.std.specs.Prelude.{ℕ, zero, suc, ◌+◌, ◌-◌, ◌<◌, ◌≤◌, ◌≡◌, refl, Bool, true, false, ◌&&◌, List, leb, eqb}
+use Rattle.std.specs.Prelude.{ℕ, zero, suc, ◌+◌, ◌-◌, ◌<◌, ◌≤◌, ◌≡◌, refl, true, false, List, eqb}
 use Rattle.std.proofs.Common.{arith, subst, le-leb, ne_eqb}
 use Rattle.std.proofs.Math.Decide.{dec_lt}
 use Rattle.std.proofs.lemmas.Bool.{lt-leb}
-use Rattle.rules.specs.Basics.{pick}
-use Rattle.rules.specs.Syntax.{Field, name_f, include_f, reg_f, gate_f, end_f, stmt_f, if_f}
+use Rattle.rules.specs.Syntax.{Field, name_f, include_f, reg_f, end_f, stmt_f}
 use Rattle.rules.specs.Items.{le4}
 use Rattle.rules.specs.Reading.{is_decl, is_stmt}
 use Rattle.views.specs.View.{name_in, operand_in, gate_in, if_in, stmt_in, is_plain, field_in}

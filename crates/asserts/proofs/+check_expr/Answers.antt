@@ -1,6 +1,4 @@
-use borrow.Author.Rules.{rules}
 use Rattle.asserts.proofs.Values.{walk_laws}
-use Prim.Native.Nat.{ℕ, ◌<◌}
 use Rattle.asserts.proofs.+check_expr.Goals as goal
 
 pub returns-then-depth-eq0 : goal.returns-then-depth-eq0

@@ -1,4 +1,3 @@
-use borrow.Author.Rules.{rules}
 use Rattle.asserts.proofs.Values.{def_laws}
 use Rattle.asserts.proofs.assert_def.Goals as goal
 

@@ -1,4 +1,3 @@
-use borrow.Author.Rules.{rules}
 use Rattle.asserts.proofs.Values.{len_same, len_told}
 use Rattle.asserts.proofs.assert_len.Goals as goal
 

@@ -1,12 +1,6 @@
-use borrow.Author.Rules.{rules}
-use mathlib.Core.Path.{◌≡◌, refl, ◌∙◌}
-use mathlib.Core.List.{map}
-use lib.ListN.{length}
+use mathlib.Core.Path.{refl, ◌∙◌}
 use Rattle.rules.specs.Errors.{error_field}
-use Rattle.views.specs.View.{operand_in, row_in}
-use Rattle.output.specs.Sinks.{Owes, owes_all, owes_less, owes_none}
-use Rattle.tables.specs.Tables.{reg_in}
-use Rattle.rules.specs.Checking.{quantum, operand_errors}
+use Rattle.output.specs.Sinks.{owes_all, owes_less, owes_none}
 use Rattle.asserts.proofs.Matching.{regs_none, regs_more}
 use Rattle.asserts.proofs.assert_regs.Goals as goal
 

@@ -1,13 +1,11 @@
-use borrow.Author.Rules.{rules}
-use mathlib.Core.Path.{◌≡◌, refl, ◌∙◌}
+use mathlib.Core.Path.{◌≡◌}
 use mathlib.Core.List.{map}
 use lib.ListN.{length}
 use Rattle.rules.specs.Errors.{error_field}
 use Rattle.views.specs.View.{operand_in, row_in}
-use Rattle.output.specs.Sinks.{Owes, owes_all, owes_less, owes_none}
+use Rattle.output.specs.Sinks.{Owes}
 use Rattle.tables.specs.Tables.{reg_in}
 use Rattle.rules.specs.Checking.{quantum, operand_errors}
-use Rattle.asserts.proofs.Matching.{regs_none, regs_more}
 use Rattle.asserts.proofs.assert_regs.Given as goal
 
 abbrev pub invariant-loop-left : goal.invariant-loop-left

@@ -1,4 +1,3 @@
-use borrow.Author.Rules.{rules}
 use Rattle.asserts.proofs.Values.{scalar_laws}
 use Rattle.asserts.proofs.assert_scalar_size.Goals as goal
 

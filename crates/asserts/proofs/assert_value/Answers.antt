@@ -1,4 +1,3 @@
-use borrow.Author.Rules.{rules}
 use Rattle.asserts.proofs.Values.{value_wide, value_low, value_told}
 use native.Mathlib.Omega.{arith}
 use Rattle.asserts.proofs.assert_value.Goals as goal

@@ -1,11 +1,6 @@
-use borrow.Author.Rules.{rules}
-use mathlib.Core.Path.{◌≡◌, refl, ◌∙◌}
-use lib.ListN.{length}
+use mathlib.Core.Path.{refl, ◌∙◌}
 use Rattle.rules.specs.Errors.{error_field}
-use Rattle.rules.specs.Checking.{exprs_errors}
-use Rattle.views.specs.View.{exprs_in}
-use Rattle.output.specs.Sinks.{Owes, owes_all, owes_less, owes_none}
-use Rattle.tables.specs.Tables.{param_in}
+use Rattle.output.specs.Sinks.{owes_all, owes_less, owes_none}
 use Rattle.asserts.proofs.Values.{exprs_none, exprs_more}
 use Rattle.asserts.proofs.check_exprs.Goals as goal
 

@@ -1,12 +1,10 @@
-use borrow.Author.Rules.{rules}
-use mathlib.Core.Path.{◌≡◌, refl, ◌∙◌}
+use mathlib.Core.Path.{◌≡◌}
 use lib.ListN.{length}
 use Rattle.rules.specs.Errors.{error_field}
 use Rattle.rules.specs.Checking.{exprs_errors}
 use Rattle.views.specs.View.{exprs_in}
-use Rattle.output.specs.Sinks.{Owes, owes_all, owes_less, owes_none}
+use Rattle.output.specs.Sinks.{Owes}
 use Rattle.tables.specs.Tables.{param_in}
-use Rattle.asserts.proofs.Values.{exprs_none, exprs_more}
 use Rattle.asserts.proofs.check_exprs.Given as goal
 
 abbrev pub invariant-loop-left : goal.invariant-loop-left

@@ -1,4 +1,3 @@
-use borrow.Author.Rules.{rules}
 use Rattle.asserts.proofs.Values.{leaf_var, leaf_other}
 use native.Mathlib.Omega.{arith}
 use Prim.Native.Nat.{◌+◌}

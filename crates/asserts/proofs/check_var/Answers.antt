@@ -1,4 +1,3 @@
-use borrow.Author.Rules.{rules}
 use Rattle.asserts.proofs.Values.{var_laws}
 use Rattle.asserts.proofs.check_var.Goals as goal
 

@@ -1,4 +1,3 @@
-use borrow.Author.Rules.{rules}
 use Rattle.asserts.proofs.Matching.{fix_laws}
 use Rattle.asserts.proofs.fix.Goals as goal
 

@@ -1,4 +1,3 @@
-use borrow.Author.Rules.{rules}
 use Rattle.asserts.proofs.Matching.{step_laws}
 use Rattle.asserts.proofs.match_operand.Goals as goal
 

@@ -1,4 +1,3 @@
-use borrow.Author.Rules.{rules}
 use Rattle.asserts.proofs.Matching.{match_pair}
 use Rattle.asserts.proofs.match_two.Goals as goal
 

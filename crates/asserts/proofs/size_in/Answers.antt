@@ -1,4 +1,3 @@
-use borrow.Author.Rules.{rules}
 use Rattle.asserts.proofs.Operands.{index_laws}
 use Rattle.asserts.proofs.size_in.Goals as goal
 

@@ -1,4 +1,3 @@
-use borrow.Author.Rules.{rules}
 use Rattle.asserts.proofs.Operands.{operand_laws}
 use Rattle.asserts.proofs.size_of.Goals as goal
 

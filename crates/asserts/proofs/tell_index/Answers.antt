@@ -1,4 +1,3 @@
-use borrow.Author.Rules.{rules}
 use Rattle.asserts.proofs.Operands.{index_laws}
 use Rattle.asserts.proofs.tell_index.Goals as goal
 

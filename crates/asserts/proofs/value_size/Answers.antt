@@ -1,8 +1,6 @@
 use borrow.Author.Rules.{rules}
-use mathlib.Core.Path.{◌≡◌, refl}
-use Prim.Native.Nat.{◌≤◌, ◌-◌, ◌^◌}
-use lib.Dec.{leb}
-use Rattle.rules.specs.Basics.{first_from, first}
+use mathlib.Core.Path.{refl}
+use Rattle.rules.specs.Basics.{first}
 use Rattle.rules.specs.Checking.{value_size}
 use Rattle.asserts.proofs.Values.{value_hit, value_miss, value_end}
 use Rattle.asserts.proofs.value_size.Goals as goal

@@ -1,10 +1,8 @@
-use borrow.Author.Rules.{rules}
-use mathlib.Core.Path.{◌≡◌, refl}
+use mathlib.Core.Path.{◌≡◌}
 use Prim.Native.Nat.{◌≤◌, ◌-◌, ◌^◌}
 use lib.Dec.{leb}
-use Rattle.rules.specs.Basics.{first_from, first}
+use Rattle.rules.specs.Basics.{first_from}
 use Rattle.rules.specs.Checking.{value_size}
-use Rattle.asserts.proofs.Values.{value_hit, value_miss, value_end}
 use Rattle.asserts.proofs.value_size.Given as goal
 
 abbrev pub invariant-loop-e : goal.invariant-loop-e

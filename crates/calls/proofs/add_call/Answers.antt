@@ -1,4 +1,3 @@
-use borrow.Author.Rules.{rules}
 use Rattle.calls.proofs.Adding.{add_laws}
 use Rattle.calls.proofs.add_call.Goals as goal
 

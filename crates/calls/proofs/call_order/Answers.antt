@@ -1,4 +1,3 @@
-use borrow.Author.Rules.{rules}
 use mathlib.Core.Path.{◌∙◌}
 use Rattle.calls.proofs.Groups.{same_order}
 use Rattle.calls.proofs.call_order.Goals as goal

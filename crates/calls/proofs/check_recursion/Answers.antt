@@ -1,4 +1,3 @@
-use borrow.Author.Rules.{rules}
 use mathlib.Core.Path.{◌∙◌}
 use Rattle.calls.proofs.Groups.{same_leaders, none_told}
 use Rattle.calls.proofs.check_recursion.Goals as goal

@@ -1,12 +1,5 @@
-use borrow.Author.Rules.{rules}
-use Prim.Native.Nat.{◌-◌}
-use mathlib.Core.Path.{◌≡◌, refl, ◌∙◌}
-use mathlib.Core.List.{List}
-use lib.ListN.{length}
-use Rattle.rules.specs.Syntax.{Gate}
-use Rattle.views.specs.View.{rest}
-use Rattle.calls.specs.Collecting.{Numbered, calls_in, calls_from}
-use Rattle.calls.proofs.Adding.{Left, left_all, left_less, left_none}
+use mathlib.Core.Path.{refl, ◌∙◌}
+use Rattle.calls.proofs.Adding.{left_all, left_less, left_none}
 use Rattle.calls.proofs.Fields.{field_calls_lem, calls_start, calls_end}
 use Rattle.calls.proofs.collect_calls.Goals as goal
 
@@ -18,14 +11,13 @@ pub visit-here-requires : goal.visit-here-requires
 visit-here-requires c = c.loop-at.invariant.2
 
 pub loop-at-preserved : goal.loop-at-preserved
-loop-at-preserved c =
-    (
-        (c.visit-here.auto.spans) ∙ (c.loop-at.invariant.0),
-        λ gs N.
-        let v = (c.visit-here.ensures.1) gs N in
-        rw v.place (left_less _ _ _ _ _ _ _ _ ((c.loop-at.invariant.1) gs N) (field_calls_lem gs _ _ _ _ _ _ (c.loop-at-test.true) (c.byte_at.ensures.0) (c.load-p.ensures) (c.next-at.ensures)) v.added),
-        c.visit-here.ensures.0,
-        )
+loop-at-preserved c = (
+  (c.visit-here.auto.spans) ∙ (c.loop-at.invariant.0),
+  λ gs N.
+      let v = (c.visit-here.ensures.1) gs N in
+      rw v.place (left_less _ _ _ _ _ _ _ _ ((c.loop-at.invariant.1) gs N) (field_calls_lem gs _ _ _ _ _ _ (c.loop-at-test.true) (c.byte_at.ensures.0) (c.load-p.ensures) (c.next-at.ensures)) v.added),
+  c.visit-here.ensures.0,
+)
 
 pub returns : goal.returns
 returns c = λ gs N. left_none _ _ _ _ ((c.loop-at.invariant.1) gs N) (calls_end gs _ _ _ (c.loop-at-test.false))

@@ -1,13 +1,11 @@
-use borrow.Author.Rules.{rules}
 use Prim.Native.Nat.{◌-◌}
-use mathlib.Core.Path.{◌≡◌, refl, ◌∙◌}
+use mathlib.Core.Path.{◌≡◌}
 use mathlib.Core.List.{List}
 use lib.ListN.{length}
 use Rattle.rules.specs.Syntax.{Gate}
 use Rattle.views.specs.View.{rest}
 use Rattle.calls.specs.Collecting.{Numbered, calls_in, calls_from}
-use Rattle.calls.proofs.Adding.{Left, left_all, left_less, left_none}
-use Rattle.calls.proofs.Fields.{field_calls_lem, calls_start, calls_end}
+use Rattle.calls.proofs.Adding.{Left}
 use Rattle.calls.proofs.collect_calls.Given as goal
 
 abbrev pub invariant-loop-at : goal.invariant-loop-at

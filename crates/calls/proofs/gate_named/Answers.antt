@@ -1,4 +1,3 @@
-use borrow.Author.Rules.{rules}
 use mathlib.Core.Path.{ap, ◌∙◌}
 use Rattle.rules.specs.Checking.{number_of}
 use Rattle.calls.proofs.gate_named.Goals as goal

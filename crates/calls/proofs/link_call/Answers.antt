@@ -1,4 +1,3 @@
-use borrow.Author.Rules.{rules}
 use Rattle.calls.proofs.Adding.{call_some, call_none}
 use Rattle.calls.proofs.link_call.Goals as goal
 

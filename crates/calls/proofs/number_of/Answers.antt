@@ -1,4 +1,3 @@
-use borrow.Author.Rules.{rules}
 use Rattle.calls.proofs.Adding.{number_laws}
 use Rattle.calls.proofs.number_of.Goals as goal
 

@@ -1,10 +1,6 @@
 use borrow.Author.Rules.{rules}
-use Prim.Native.Nat.{◌≤◌, ◌-◌}
-use mathlib.Core.Path.{◌≡◌, refl, ◌∙◌}
-use lib.ListN.{length, drop}
-use Rattle.rules.specs.Errors.{pair_bytes}
-use Rattle.calls.specs.Telling.{pairs_by}
-use Rattle.calls.proofs.Pairs.{Owing, pairs_start, pairs_more, pairs_end}
+use mathlib.Core.Path.{refl, ◌∙◌}
+use Rattle.calls.proofs.Pairs.{pairs_start, pairs_more, pairs_end}
 use Rattle.calls.proofs.put_pairs.Goals as goal
 
 pub loop-i-init : goal.loop-i-init

@@ -1,10 +1,9 @@
-use borrow.Author.Rules.{rules}
 use Prim.Native.Nat.{◌≤◌, ◌-◌}
-use mathlib.Core.Path.{◌≡◌, refl, ◌∙◌}
+use mathlib.Core.Path.{◌≡◌}
 use lib.ListN.{length, drop}
 use Rattle.rules.specs.Errors.{pair_bytes}
 use Rattle.calls.specs.Telling.{pairs_by}
-use Rattle.calls.proofs.Pairs.{Owing, pairs_start, pairs_more, pairs_end}
+use Rattle.calls.proofs.Pairs.{Owing}
 use Rattle.calls.proofs.put_pairs.Given as goal
 
 abbrev pub invariant-loop-i : goal.invariant-loop-i

@@ -1,4 +1,3 @@
-use borrow.Author.Rules.{rules}
 use mathlib.Core.Path.{sym}
 use lib.Seq.{set_out}
 use Rattle.calls.proofs.put_word.Goals as goal

@@ -1,4 +1,3 @@
-use borrow.Author.Rules.{rules}
 use Rattle.calls.proofs.Pairs.{span_laws}
 use Rattle.calls.proofs.span_of.Goals as goal
 

@@ -1,4 +1,3 @@
-use borrow.Author.Rules.{rules}
 use mathlib.Core.Path.{refl}
 use Rattle.calls.proofs.Pairs.{cycle_told}
 use Rattle.calls.proofs.tell_cycle.Goals as goal

@@ -1,15 +1,6 @@
 use borrow.Author.Rules.{rules}
-use Prim.Native.Nat.{◌≤◌, ◌-◌}
-use mathlib.Core.Path.{◌≡◌, refl, ◌∙◌}
+use mathlib.Core.Path.{refl, ◌∙◌}
 use native.Mathlib.Omega.{arith}
-use mathlib.Core.List.{List, map}
-use lib.ListN.{length, take, drop}
-use Rattle.rules.specs.Syntax.{Gate}
-use Rattle.rules.specs.Errors.{error_field}
-use Rattle.rules.specs.Graph.{leaders}
-use Rattle.rules.specs.Calls.{Call, edge, group_error, recursion_errors}
-use Rattle.output.specs.Sinks.{Owes}
-use Rattle.calls.specs.Telling.{Shown}
 use Rattle.calls.proofs.Groups.{fits, fits_all, groups_start, group_leads, groups_more, groups_end}
 use Rattle.calls.proofs.tell_groups.Goals as goal
 
@@ -24,15 +15,14 @@ pub bounds-list-i : goal.bounds-list-i
 bounds-list-i c = omega (arith, c.at_most-k.ensures)
 
 pub loop-i-preserved : goal.loop-i-preserved
-loop-i-preserved c =
-    (
-        search rules,
-        (c.tell_group-r.auto.out) ∙ (c.loop-i.invariant.1),
-        λ gs cs S e.
-        let fit = fits (c.args.lowest.gates) _ _ (search rules) (c.at_most-k.ensures) in
-        let g = group_leads gs cs _ _ _ _ S _ _ e fit _ (c.loop-i-test.true) in
-        groups_more gs cs _ _ _ _ S _ _ e fit _ (c.loop-i-test.true) _ _ _ _ _ _ ((c.loop-i.invariant.2) gs cs S e) ((c.tell_group-r.ensures) gs cs S g.0 g.1),
-        )
+loop-i-preserved c = (
+  search rules,
+  (c.tell_group-r.auto.out) ∙ (c.loop-i.invariant.1),
+  λ gs cs S e.
+      let fit = fits (c.args.lowest.gates) _ _ (search rules) (c.at_most-k.ensures) in
+      let g = group_leads gs cs _ _ _ _ S _ _ e fit _ (c.loop-i-test.true) in
+      groups_more gs cs _ _ _ _ S _ _ e fit _ (c.loop-i-test.true) _ _ _ _ _ _ ((c.loop-i.invariant.2) gs cs S e) ((c.tell_group-r.ensures) gs cs S g.0 g.1),
+)
 
 pub returns : goal.returns
 returns c =

@@ -1,7 +1,5 @@
-use borrow.Author.Rules.{rules}
 use Prim.Native.Nat.{◌≤◌, ◌-◌}
-use mathlib.Core.Path.{◌≡◌, refl, ◌∙◌}
-use native.Mathlib.Omega.{arith}
+use mathlib.Core.Path.{◌≡◌}
 use mathlib.Core.List.{List, map}
 use lib.ListN.{length, take, drop}
 use Rattle.rules.specs.Syntax.{Gate}
@@ -10,7 +8,6 @@ use Rattle.rules.specs.Graph.{leaders}
 use Rattle.rules.specs.Calls.{Call, edge, group_error, recursion_errors}
 use Rattle.output.specs.Sinks.{Owes}
 use Rattle.calls.specs.Telling.{Shown}
-use Rattle.calls.proofs.Groups.{fits, fits_all, groups_start, group_leads, groups_more, groups_end}
 use Rattle.calls.proofs.tell_groups.Given as goal
 
 abbrev pub invariant-loop-i : goal.invariant-loop-i

@@ -1,4 +1,3 @@
-use borrow.Author.Rules.{rules}
 use Rattle.calls.proofs.Fields.{seen_laws}
 use Rattle.calls.proofs.visit.Goals as goal
 

@@ -1,4 +1,3 @@
-use borrow.Author.Rules.{rules}
 use Rattle.checks.proofs.Answering.{check_laws}
 use Rattle.checks.proofs.check.Goals as goal
 

@@ -1,4 +1,3 @@
-use borrow.Author.Rules.{rules}
 use Rattle.checks.proofs.Passes.{local_said}
 use Rattle.checks.proofs.check_local.Goals as goal
 

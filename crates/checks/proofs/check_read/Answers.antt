@@ -1,9 +1,7 @@
 -- the lent buffer's length is a number of 64 bits
-use borrow.Author.Rules.{rules}
 use native.Mathlib.Omega.{arith}
-use Prim.Native.Nat.{ℕ, ◌≤◌}
-use lib.ListN.{length, length-replicate}
-use Rattle.output.specs.Bytes.{most}
+use Prim.Native.Nat.{ℕ}
+use lib.ListN.{length-replicate}
 use Rattle.checks.proofs.Answering.{room_short, none_listed, some_listed, some_held}
 use Rattle.checks.proofs.check_read.Goals as goal
 

@@ -1,8 +1,5 @@
 use borrow.Author.Rules.{rules}
-use mathlib.Core.Path.{◌≡◌, refl}
-use mathlib.Core.List.{◌++◌}
-use Prim.Native.Nat.{◌≤◌, ◌-◌}
-use lib.ListN.{length, take, drop}
+use mathlib.Core.Path.{refl}
 use Rattle.checks.proofs.Laying.{lay_turn, lay_long, lay_end}
 use Rattle.checks.proofs.lay.Goals as goal
 

@@ -1,10 +1,8 @@
 -- The loop's invariant: as many bytes as were passed lie over the front.
-use borrow.Author.Rules.{rules}
-use mathlib.Core.Path.{◌≡◌, refl}
+use mathlib.Core.Path.{◌≡◌}
 use mathlib.Core.List.{◌++◌}
 use Prim.Native.Nat.{◌≤◌, ◌-◌}
 use lib.ListN.{length, take, drop}
-use Rattle.checks.proofs.Laying.{lay_turn, lay_long, lay_end}
 use Rattle.checks.proofs.lay.Given as goal
 
 abbrev pub invariant-loop-i : goal.invariant-loop-i

@@ -1,4 +1,3 @@
-use borrow.Author.Rules.{rules}
 use mathlib.Core.Path.{refl}
 use Rattle.checks.proofs.Passes.{all_said}
 use Rattle.checks.proofs.tell_errors.Goals as goal

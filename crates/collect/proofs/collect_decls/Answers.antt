@@ -1,10 +1,7 @@
-use borrow.Author.Rules.{rules}
-use mathlib.Core.Path.{◌≡◌, refl, ◌∙◌, sym}
-use Prim.Native.Nat.{◌-◌}
+use mathlib.Core.Path.{sym}
 use native.Mathlib.Omega.{arith}
-use lib.ListN.{length}
 use Rattle.tables.specs.Zeros.{zeros, zeros_length, zeros_word}
-use Rattle.collect.proofs.Headers.{DeclsOwed, decls_start, decls_moved, decls_done}
+use Rattle.collect.proofs.Headers.{decls_start, decls_moved, decls_done}
 use Rattle.collect.proofs.collect_decls.Goals as goal
 
 pub loop-w-init : goal.loop-w-init

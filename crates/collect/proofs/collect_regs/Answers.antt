@@ -1,10 +1,7 @@
-use borrow.Author.Rules.{rules}
-use mathlib.Core.Path.{◌≡◌, refl, ◌∙◌, sym}
-use Prim.Native.Nat.{◌-◌}
+use mathlib.Core.Path.{sym}
 use native.Mathlib.Omega.{arith}
-use lib.ListN.{length}
 use Rattle.tables.specs.Zeros.{zeros, zeros_length, zeros_word}
-use Rattle.collect.proofs.Registers.{RegsOwed, regs_start, regs_moved, regs_done}
+use Rattle.collect.proofs.Registers.{regs_start, regs_moved, regs_done}
 use Rattle.collect.proofs.collect_regs.Goals as goal
 
 pub loop-w-init : goal.loop-w-init

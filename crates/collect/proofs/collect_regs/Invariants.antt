@@ -1,10 +1,6 @@
-use borrow.Author.Rules.{rules}
-use mathlib.Core.Path.{◌≡◌, refl, ◌∙◌, sym}
 use Prim.Native.Nat.{◌-◌}
-use native.Mathlib.Omega.{arith}
 use lib.ListN.{length}
-use Rattle.tables.specs.Zeros.{zeros, zeros_length, zeros_word}
-use Rattle.collect.proofs.Registers.{RegsOwed, regs_start, regs_moved, regs_done}
+use Rattle.collect.proofs.Registers.{RegsOwed}
 use Rattle.collect.proofs.collect_regs.Given as goal
 
 abbrev pub invariant-loop-w : goal.invariant-loop-w

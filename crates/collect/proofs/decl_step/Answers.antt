@@ -1,4 +1,3 @@
-use borrow.Author.Rules.{rules}
 use Rattle.collect.proofs.Headers.{decl_inside, decl_header, decl_other}
 use Rattle.collect.proofs.decl_step.Goals as goal
 

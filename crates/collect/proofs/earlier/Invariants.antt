@@ -1,11 +1,8 @@
-use borrow.Author.Rules.{rules}
-use mathlib.Core.Path.{◌≡◌, refl}
+use mathlib.Core.Path.{◌≡◌}
 use mathlib.Core.List.{map}
 use Prim.Native.Nat.{◌≤◌}
-use native.Mathlib.Omega.{arith}
 use Rattle.rules.specs.Checking.{argument, latest}
 use Rattle.views.specs.View.{named_in, row_in}
-use Rattle.collect.proofs.Names.{back_hit, back_miss, back_end}
 use Rattle.collect.proofs.earlier.Given as goal
 
 abbrev pub invariant-loop-i : goal.invariant-loop-i

@@ -1,4 +1,3 @@
-use borrow.Author.Rules.{rules}
 use Rattle.collect.proofs.Headers.{gate_entered}
 use Rattle.collect.proofs.enter_gate.Goals as goal
 

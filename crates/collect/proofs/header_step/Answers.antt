@@ -1,4 +1,3 @@
-use borrow.Author.Rules.{rules}
 use Rattle.collect.proofs.Headers.{header_laws}
 use Rattle.collect.proofs.header_step.Goals as goal
 

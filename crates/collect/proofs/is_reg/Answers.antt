@@ -1,4 +1,3 @@
-use borrow.Author.Rules.{rules}
 use Rattle.collect.proofs.Registers.{reg_three, reg_four}
 use Rattle.collect.proofs.is_reg.Goals as goal
 

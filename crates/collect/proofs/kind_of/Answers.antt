@@ -1,4 +1,3 @@
-use borrow.Author.Rules.{rules}
 use Rattle.collect.proofs.Names.{kind_two, kind_one}
 use Rattle.collect.proofs.kind_of.Goals as goal
 

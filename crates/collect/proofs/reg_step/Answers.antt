@@ -1,4 +1,3 @@
-use borrow.Author.Rules.{rules}
 use Rattle.collect.proofs.Registers.{reg_inside, reg_entered, reg_other, name_small}
 use native.Mathlib.Omega.{arith}
 use Rattle.collect.proofs.reg_step.Goals as goal

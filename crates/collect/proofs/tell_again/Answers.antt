@@ -1,4 +1,3 @@
-use borrow.Author.Rules.{rules}
 use Rattle.collect.proofs.Names.{again_none, again_row}
 use Rattle.collect.proofs.tell_again.Goals as goal
 

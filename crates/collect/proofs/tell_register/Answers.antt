@@ -1,4 +1,3 @@
-use borrow.Author.Rules.{rules}
 use Rattle.collect.proofs.Names.{register_laws}
 use Rattle.collect.proofs.tell_register.Goals as goal
 

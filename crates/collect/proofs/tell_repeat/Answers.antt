@@ -1,4 +1,3 @@
-use borrow.Author.Rules.{rules}
 use Rattle.collect.proofs.Names.{repeat_laws}
 use Rattle.collect.proofs.tell_repeat.Goals as goal
 

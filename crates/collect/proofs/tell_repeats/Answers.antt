@@ -1,15 +1,8 @@
 use borrow.Author.Rules.{rules}
-use mathlib.Core.Path.{◌≡◌, refl, ◌∙◌, sym}
-use mathlib.Core.List.{[]}
-use Prim.Native.Nat.{◌≤◌, ◌-◌}
-use native.Mathlib.Omega.{arith}
-use lib.ListN.{length}
+use mathlib.Core.Path.{refl, ◌∙◌, sym}
 use Rattle.rules.specs.Errors.{error_field}
-use Rattle.rules.specs.Checking.{repeats}
-use Rattle.views.specs.View.{named_in, row_in}
-use Rattle.output.specs.Sinks.{Owes, owes_same, owes_less, owes_none}
-use Rattle.collect.specs.Collected.{named_kind}
-use Rattle.collect.proofs.Names.{left_repeats, repeats_start, repeats_more, repeats_end}
+use Rattle.output.specs.Sinks.{owes_same, owes_less, owes_none}
+use Rattle.collect.proofs.Names.{repeats_start, repeats_more, repeats_end}
 use Rattle.collect.proofs.tell_repeats.Goals as goal
 
 pub loop-i-init : goal.loop-i-init

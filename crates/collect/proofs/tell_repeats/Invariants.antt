@@ -1,15 +1,13 @@
-use borrow.Author.Rules.{rules}
-use mathlib.Core.Path.{◌≡◌, refl, ◌∙◌, sym}
+use mathlib.Core.Path.{◌≡◌}
 use mathlib.Core.List.{[]}
 use Prim.Native.Nat.{◌≤◌, ◌-◌}
-use native.Mathlib.Omega.{arith}
 use lib.ListN.{length}
 use Rattle.rules.specs.Errors.{error_field}
 use Rattle.rules.specs.Checking.{repeats}
 use Rattle.views.specs.View.{named_in, row_in}
-use Rattle.output.specs.Sinks.{Owes, owes_same, owes_less, owes_none}
+use Rattle.output.specs.Sinks.{Owes}
 use Rattle.collect.specs.Collected.{named_kind}
-use Rattle.collect.proofs.Names.{left_repeats, repeats_start, repeats_more, repeats_end}
+use Rattle.collect.proofs.Names.{left_repeats}
 use Rattle.collect.proofs.tell_repeats.Given as goal
 
 abbrev pub invariant-loop-i : goal.invariant-loop-i

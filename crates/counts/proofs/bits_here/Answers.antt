@@ -1,4 +1,3 @@
-use borrow.Author.Rules.{rules}
 use Rattle.counts.proofs.Laws.{bits_laws}
 use Rattle.counts.proofs.bits_here.Goals as goal
 

@@ -1,4 +1,3 @@
-use borrow.Author.Rules.{rules}
 use Rattle.counts.proofs.Laws.{times_capped}
 use Rattle.counts.proofs.capped_times.Goals as goal
 

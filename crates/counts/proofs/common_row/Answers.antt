@@ -1,9 +1,5 @@
-use borrow.Author.Rules.{rules}
-use mathlib.Core.Path.{◌≡◌, refl, sym, ◌∙◌}
-use lib.Dec.{eqb}
-use Rattle.rules.specs.Basics.{pick}
-use Rattle.rules.specs.Run.{common}
-use Rattle.counts.proofs.Turns.{row, common_turn, common_over}
+use mathlib.Core.Path.{refl, sym, ◌∙◌}
+use Rattle.counts.proofs.Turns.{common_turn, common_over}
 use Rattle.counts.proofs.common_row.Goals as goal
 
 pub loop-left-init : goal.loop-left-init

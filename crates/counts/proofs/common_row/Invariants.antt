@@ -1,9 +1,8 @@
-use borrow.Author.Rules.{rules}
-use mathlib.Core.Path.{◌≡◌, refl, sym, ◌∙◌}
+use mathlib.Core.Path.{◌≡◌}
 use lib.Dec.{eqb}
 use Rattle.rules.specs.Basics.{pick}
 use Rattle.rules.specs.Run.{common}
-use Rattle.counts.proofs.Turns.{row, common_turn, common_over}
+use Rattle.counts.proofs.Turns.{row}
 use Rattle.counts.proofs.common_row.Given as goal
 
 abbrev pub invariant-loop-left : goal.invariant-loop-left

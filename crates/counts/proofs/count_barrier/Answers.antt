@@ -1,4 +1,3 @@
-use borrow.Author.Rules.{rules}
 use Rattle.counts.proofs.Laws.{barrier_counted}
 use Rattle.counts.proofs.count_barrier.Goals as goal
 

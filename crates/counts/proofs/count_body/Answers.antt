@@ -1,13 +1,8 @@
 use borrow.Author.Rules.{rules}
-use mathlib.Core.Path.{◌≡◌, refl}
-use Prim.Native.Nat.{◌+◌, ◌-◌, ◌≤◌, min}
+use mathlib.Core.Path.{refl}
 use native.Mathlib.Omega.{arith}
-use lib.ListN.{length}
-use mathlib.Core.List.{[]}
-use lib.ListN.{get_or}
-use Rattle.views.specs.View.{rest}
 use Rattle.counts.proofs.Turns.{capped_turn, capped_end}
-use Rattle.counts.proofs.Walks.{body_sum, body_turn, body_over, body_done}
+use Rattle.counts.proofs.Walks.{body_turn, body_over, body_done}
 use Rattle.counts.proofs.count_body.Goals as goal
 
 pub loop-at-init : goal.loop-at-init

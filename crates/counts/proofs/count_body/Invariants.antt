@@ -1,13 +1,10 @@
-use borrow.Author.Rules.{rules}
-use mathlib.Core.Path.{◌≡◌, refl}
+use mathlib.Core.Path.{◌≡◌}
 use Prim.Native.Nat.{◌+◌, ◌-◌, ◌≤◌, min}
-use native.Mathlib.Omega.{arith}
 use lib.ListN.{length}
 use mathlib.Core.List.{[]}
 use lib.ListN.{get_or}
 use Rattle.views.specs.View.{rest}
-use Rattle.counts.proofs.Turns.{capped_turn, capped_end}
-use Rattle.counts.proofs.Walks.{body_sum, body_turn, body_over, body_done}
+use Rattle.counts.proofs.Walks.{body_sum}
 use Rattle.counts.proofs.count_body.Given as goal
 
 abbrev pub invariant-loop-at : goal.invariant-loop-at

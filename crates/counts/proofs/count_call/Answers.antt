@@ -1,4 +1,3 @@
-use borrow.Author.Rules.{rules}
 use Rattle.counts.proofs.Laws.{call_counted}
 use Rattle.counts.proofs.count_call.Goals as goal
 

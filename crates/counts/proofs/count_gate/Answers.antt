@@ -1,4 +1,3 @@
-use borrow.Author.Rules.{rules}
 use Rattle.counts.proofs.Laws.{gate_laws}
 use Rattle.counts.proofs.count_gate.Goals as goal
 

@@ -1,9 +1,4 @@
-use borrow.Author.Rules.{rules}
-use mathlib.Core.Path.{◌≡◌, refl, ◌∙◌}
-use Prim.Native.Nat.{◌-◌}
-use lib.ListN.{length}
-use lib.ListN.{drop}
-use Rattle.counts.specs.Sums.{sum_fill}
+use mathlib.Core.Path.{refl, ◌∙◌}
 use Rattle.counts.proofs.Turns.{fill_turn, fill_over}
 use Rattle.counts.proofs.count_gates.Goals as goal
 

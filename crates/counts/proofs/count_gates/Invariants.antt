@@ -1,10 +1,8 @@
-use borrow.Author.Rules.{rules}
-use mathlib.Core.Path.{◌≡◌, refl, ◌∙◌}
+use mathlib.Core.Path.{◌≡◌}
 use Prim.Native.Nat.{◌-◌}
 use lib.ListN.{length}
 use lib.ListN.{drop}
 use Rattle.counts.specs.Sums.{sum_fill}
-use Rattle.counts.proofs.Turns.{fill_turn, fill_over}
 use Rattle.counts.proofs.count_gates.Given as goal
 
 abbrev pub invariant-loop-i : goal.invariant-loop-i

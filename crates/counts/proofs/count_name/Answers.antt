@@ -1,4 +1,3 @@
-use borrow.Author.Rules.{rules}
 use Rattle.counts.proofs.Laws.{name_laws}
 use Rattle.counts.proofs.count_name.Goals as goal
 

@@ -1,4 +1,3 @@
-use borrow.Author.Rules.{rules}
 use Rattle.counts.proofs.Laws.{one_counted}
 use Rattle.counts.proofs.count_one.Goals as goal
 

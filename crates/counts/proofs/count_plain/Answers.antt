@@ -1,4 +1,3 @@
-use borrow.Author.Rules.{rules}
 use Rattle.counts.proofs.Laws.{tag_laws}
 use Rattle.counts.proofs.count_plain.Goals as goal
 

@@ -1,13 +1,10 @@
-use borrow.Author.Rules.{rules}
 use mathlib.Core.Path.{◌≡◌}
 use Prim.Native.Nat.{◌+◌, ◌-◌, ◌≤◌, min}
-use native.Mathlib.Omega.{arith}
 use lib.ListN.{length}
 use mathlib.Core.Bool.{false}
 use lib.ListN.{get_or}
 use Rattle.views.specs.View.{rest}
-use Rattle.counts.proofs.Turns.{capped_turn, capped_end}
-use Rattle.counts.proofs.Walks.{top_sum, top_turn, top_done}
+use Rattle.counts.proofs.Walks.{top_sum}
 use Rattle.counts.proofs.count_top.Given as goal
 
 abbrev pub invariant-loop-at : goal.invariant-loop-at

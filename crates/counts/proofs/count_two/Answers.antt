@@ -1,4 +1,3 @@
-use borrow.Author.Rules.{rules}
 use Rattle.counts.proofs.Laws.{two_counted}
 use Rattle.counts.proofs.count_two.Goals as goal
 

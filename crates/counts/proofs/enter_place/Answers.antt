@@ -1,4 +1,3 @@
-use borrow.Author.Rules.{rules}
 use Rattle.counts.proofs.Laws.{place_there, place_none}
 use Rattle.counts.proofs.enter_place.Goals as goal
 

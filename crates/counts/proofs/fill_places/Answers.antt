@@ -1,10 +1,8 @@
 use borrow.Author.Rules.{rules}
-use mathlib.Core.Path.{◌≡◌, refl, ◌∙◌}
-use Prim.Native.Nat.{◌-◌, ◌≤◌}
+use mathlib.Core.Path.{refl, ◌∙◌}
 use native.Mathlib.Omega.{arith}
-use lib.ListN.{length}
 use Rattle.counts.proofs.Laws.{place_count}
-use Rattle.counts.proofs.Walks.{Entered, entered_none, entered_turn, entered_all}
+use Rattle.counts.proofs.Walks.{entered_none, entered_turn, entered_all}
 use Rattle.counts.proofs.fill_places.Goals as goal
 
 pub loop-at-init : goal.loop-at-init

@@ -1,10 +1,7 @@
-use borrow.Author.Rules.{rules}
-use mathlib.Core.Path.{◌≡◌, refl, ◌∙◌}
+use mathlib.Core.Path.{◌≡◌}
 use Prim.Native.Nat.{◌-◌, ◌≤◌}
-use native.Mathlib.Omega.{arith}
 use lib.ListN.{length}
-use Rattle.counts.proofs.Laws.{place_count}
-use Rattle.counts.proofs.Walks.{Entered, entered_none, entered_turn, entered_all}
+use Rattle.counts.proofs.Walks.{Entered}
 use Rattle.counts.proofs.fill_places.Given as goal
 
 abbrev pub invariant-loop-at : goal.invariant-loop-at

@@ -1,11 +1,6 @@
-use borrow.Author.Rules.{rules}
-use mathlib.Core.Path.{◌≡◌, refl, ◌∙◌}
-use Prim.Native.Nat.{◌-◌}
+use mathlib.Core.Path.{refl, ◌∙◌}
 use native.Mathlib.Omega.{arith}
-use lib.ListN.{length}
-use mathlib.Core.Bool.{false}
-use Rattle.counts.specs.Starts.{start_fill}
-use Rattle.counts.proofs.Walks.{regs_from, starts_turn, starts_done}
+use Rattle.counts.proofs.Walks.{starts_turn, starts_done}
 use Rattle.counts.proofs.fill_starts.Goals as goal
 
 pub loop-at-init : goal.loop-at-init

@@ -1,11 +1,9 @@
-use borrow.Author.Rules.{rules}
-use mathlib.Core.Path.{◌≡◌, refl, ◌∙◌}
+use mathlib.Core.Path.{◌≡◌}
 use Prim.Native.Nat.{◌-◌}
-use native.Mathlib.Omega.{arith}
 use lib.ListN.{length}
 use mathlib.Core.Bool.{false}
 use Rattle.counts.specs.Starts.{start_fill}
-use Rattle.counts.proofs.Walks.{regs_from, starts_turn, starts_done}
+use Rattle.counts.proofs.Walks.{regs_from}
 use Rattle.counts.proofs.fill_starts.Given as goal
 
 abbrev pub invariant-loop-at : goal.invariant-loop-at

@@ -1,4 +1,3 @@
-use borrow.Author.Rules.{rules}
 use native.Mathlib.Omega.{arith}
 use Rattle.counts.proofs.Laws.{product_fits}
 use Rattle.counts.proofs.product.Goals as goal

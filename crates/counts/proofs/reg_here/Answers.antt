@@ -1,4 +1,3 @@
-use borrow.Author.Rules.{rules}
 use Rattle.counts.proofs.Laws.{here_laws}
 use Rattle.counts.proofs.reg_here.Goals as goal
 

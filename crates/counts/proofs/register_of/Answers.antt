@@ -1,4 +1,3 @@
-use borrow.Author.Rules.{rules}
 use Rattle.counts.proofs.Laws.{register_laws}
 use Rattle.counts.proofs.register_of.Goals as goal
 

@@ -1,4 +1,3 @@
-use borrow.Author.Rules.{rules}
 use Rattle.counts.proofs.Laws.{size_laws}
 use Rattle.counts.proofs.size_in.Goals as goal
 

@@ -1,4 +1,3 @@
-use borrow.Author.Rules.{rules}
 use Rattle.counts.proofs.Laws.{enters_laws}
 use Rattle.counts.proofs.start_here.Goals as goal
 

@@ -1,4 +1,3 @@
-use borrow.Author.Rules.{rules}
 use Rattle.counts.proofs.Laws.{store_out}
 use Rattle.counts.proofs.store.Goals as goal
 

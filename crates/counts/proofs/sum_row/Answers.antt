@@ -1,9 +1,6 @@
 use borrow.Author.Rules.{rules}
-use mathlib.Core.Path.{◌≡◌}
-use Prim.Native.Nat.{◌+◌, ◌-◌, ◌≤◌, min}
 use native.Mathlib.Omega.{arith}
-use Rattle.theorems.specs.Count.{sum}
-use Rattle.counts.proofs.Turns.{row, plain_turn, sum_turn, sum_over, capped_end}
+use Rattle.counts.proofs.Turns.{plain_turn, sum_turn, sum_over, capped_end}
 use Rattle.counts.proofs.sum_row.Goals as goal
 
 pub loop-left-init : goal.loop-left-init

@@ -1,9 +1,7 @@
-use borrow.Author.Rules.{rules}
 use mathlib.Core.Path.{◌≡◌}
-use Prim.Native.Nat.{◌+◌, ◌-◌, ◌≤◌, min}
-use native.Mathlib.Omega.{arith}
+use Prim.Native.Nat.{◌+◌, ◌≤◌, min}
 use Rattle.theorems.specs.Count.{sum}
-use Rattle.counts.proofs.Turns.{row, plain_turn, sum_turn, sum_over, capped_end}
+use Rattle.counts.proofs.Turns.{row}
 use Rattle.counts.proofs.sum_row.Given as goal
 
 abbrev pub invariant-loop-left : goal.invariant-loop-left

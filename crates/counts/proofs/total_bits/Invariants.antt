@@ -1,12 +1,9 @@
-use borrow.Author.Rules.{rules}
 use mathlib.Core.Path.{◌≡◌}
 use Prim.Native.Nat.{◌+◌, ◌-◌, ◌≤◌, min}
-use native.Mathlib.Omega.{arith}
 use lib.ListN.{length}
 use mathlib.Core.Bool.{false}
 use Rattle.rules.specs.Run.{bits_of}
-use Rattle.counts.proofs.Turns.{plain_turn, capped_end}
-use Rattle.counts.proofs.Walks.{regs_from, bits_turn, bits_done}
+use Rattle.counts.proofs.Walks.{regs_from}
 use Rattle.counts.proofs.total_bits.Given as goal
 
 abbrev pub invariant-loop-at : goal.invariant-loop-at

@@ -1,4 +1,3 @@
-use borrow.Author.Rules.{rules}
 use Rattle.counts.proofs.Laws.{word_out}
 use Rattle.counts.proofs.word_of.Goals as goal
 

@@ -1,4 +1,3 @@
-use borrow.Author.Rules.{rules}
 use mathlib.Core.Path.{refl}
 use Rattle.entries.proofs.Laws.{opaque_as}
 use Rattle.entries.proofs.opaque_call.Goals as goal

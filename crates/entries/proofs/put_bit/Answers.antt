@@ -1,4 +1,3 @@
-use borrow.Author.Rules.{rules}
 use mathlib.Core.Path.{refl}
 use Rattle.output.specs.Bytes.{wrote_2}
 use Rattle.entries.proofs.put_bit.Goals as goal

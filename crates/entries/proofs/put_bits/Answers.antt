@@ -1,4 +1,3 @@
-use borrow.Author.Rules.{rules}
 use mathlib.Core.Path.{refl}
 use Rattle.output.specs.Bytes.{wrote_3}
 use Rattle.entries.proofs.put_bits.Goals as goal

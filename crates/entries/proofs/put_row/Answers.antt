@@ -1,8 +1,5 @@
-use borrow.Author.Rules.{rules}
-use mathlib.Core.Path.{◌≡◌, refl, ◌∙◌}
-use Prim.Native.Nat.{◌-◌}
-use lib.ListN.{length}
-use Rattle.entries.proofs.Laws.{Left, left_less, left_none}
+use mathlib.Core.Path.{refl, ◌∙◌}
+use Rattle.entries.proofs.Laws.{left_less, left_none}
 use Rattle.entries.proofs.put_row.Goals as goal
 
 pub loop-i-init : goal.loop-i-init

@@ -1,4 +1,3 @@
-use borrow.Author.Rules.{rules}
 use native.Mathlib.Omega.{arith}
 use Rattle.expand.proofs.Exits.{lay_room, lay_done}
 use Rattle.expand.proofs.lay_run.Goals as goal

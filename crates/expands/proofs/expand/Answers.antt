@@ -1,4 +1,3 @@
-use borrow.Author.Rules.{rules}
 use Rattle.expands.proofs.Serving.{expand_laws}
 use Rattle.expands.proofs.expand.Goals as goal
 

@@ -1,4 +1,3 @@
-use borrow.Author.Rules.{rules}
 use Rattle.expands.proofs.Serving.{rejected, run_laid}
 use Rattle.expands.proofs.expand_read.Goals as goal
 

@@ -1,7 +1,5 @@
 use borrow.Author.Rules.{rules}
-use Prim.Native.Nat.{◌≤◌, ◌-◌}
-use Rattle.graph.specs.Rows.{linked}
-use Rattle.graph.proofs.Groups.{linked_within, Closing, closing_none, closing_more, closing_all}
+use Rattle.graph.proofs.Groups.{linked_within, closing_none, closing_more, closing_all}
 use Rattle.graph.proofs.closed.Goals as goal
 
 pub loop-k-init : goal.loop-k-init

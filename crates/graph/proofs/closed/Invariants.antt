@@ -1,7 +1,6 @@
-use borrow.Author.Rules.{rules}
 use Prim.Native.Nat.{◌≤◌, ◌-◌}
 use Rattle.graph.specs.Rows.{linked}
-use Rattle.graph.proofs.Groups.{linked_within, Closing, closing_none, closing_more, closing_all}
+use Rattle.graph.proofs.Groups.{Closing}
 use Rattle.graph.proofs.closed.Given as goal
 
 abbrev pub invariant-loop-k : goal.invariant-loop-k

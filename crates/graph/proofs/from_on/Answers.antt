@@ -1,6 +1,5 @@
 use borrow.Author.Rules.{rules}
-use Prim.Native.Nat.{◌≤◌, ◌-◌}
-use Rattle.graph.proofs.Placing.{Beyond, beyond_none, beyond_more, beyond_all}
+use Rattle.graph.proofs.Placing.{beyond_none, beyond_more, beyond_all}
 use Rattle.graph.proofs.from_on.Goals as goal
 
 pub loop-u-init : goal.loop-u-init

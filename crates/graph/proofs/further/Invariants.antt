@@ -1,10 +1,5 @@
-use borrow.Author.Rules.{rules}
 use Prim.Native.Nat.{◌≤◌, ◌-◌}
-use mathlib.Core.Logic.{⊎_elim}
-use borrow.Author.Tests.{not-true, not-false}
 use Rattle.graph.specs.Rows.{Spread}
-use Rattle.graph.proofs.Distances.{spread_none, spread_near, spread_off, spread_on, spread_all}
-use native.Mathlib.Omega.{arith}
 use Rattle.graph.proofs.further.Given as goal
 
 abbrev pub invariant-loop-u : goal.invariant-loop-u

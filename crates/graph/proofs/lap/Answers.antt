@@ -1,10 +1,7 @@
 use borrow.Author.Rules.{rules}
-use Prim.Native.Nat.{ℕ, suc, ◌≤◌, ◌<◌, ◌-◌}
-use lib.Dec.{T}
 use native.Mathlib.Omega.{arith}
-use Rattle.graph.specs.Rows.{linked, dist}
 use Rattle.graph.proofs.Groups.{linked_within}
-use Rattle.graph.proofs.Distances.{Near, near_start, near_more, unmet_more, lap_met, lap_end}
+use Rattle.graph.proofs.Distances.{near_start, near_more, unmet_more, lap_met, lap_end}
 use Rattle.graph.proofs.lap.Goals as goal
 
 pub row-out-requires : goal.row-out-requires
@@ -28,13 +25,12 @@ pub further-near-requires : goal.further-near-requires
 further-near-requires c = (c.requires.0, c.loop-k-test.true, c.loop-k.invariant.2.size)
 
 pub loop-k-preserved : goal.loop-k-preserved
-loop-k-preserved c =
-    (
-        search rules,
-        search rules,
-        near_more _ _ (c.requires.0) _ _ _ _ (c.loop-k.invariant.1) (c.loop-k.invariant.2) (c.loop-k.invariant.0) (c.loop-k-test.true) _ _ (c.further-near.ensures),
-        unmet_more _ _ (c.requires.0) _ _ _ _ (c.loop-k.invariant.1) (c.loop-k.invariant.2) _ _ (c.row-out.ensures) (c.meets.ensures) (c.if-meets.false),
-        )
+loop-k-preserved c = (
+  search rules,
+  search rules,
+  near_more _ _ (c.requires.0) _ _ _ _ (c.loop-k.invariant.1) (c.loop-k.invariant.2) (c.loop-k.invariant.0) (c.loop-k-test.true) _ _ (c.further-near.ensures),
+  unmet_more _ _ (c.requires.0) _ _ _ _ (c.loop-k.invariant.1) (c.loop-k.invariant.2) _ _ (c.row-out.ensures) (c.meets.ensures) (c.if-meets.false),
+)
 
 pub returns : goal.returns
 returns c =

@@ -1,10 +1,7 @@
-use borrow.Author.Rules.{rules}
 use Prim.Native.Nat.{ℕ, suc, ◌≤◌, ◌<◌, ◌-◌}
 use lib.Dec.{T}
-use native.Mathlib.Omega.{arith}
 use Rattle.graph.specs.Rows.{linked, dist}
-use Rattle.graph.proofs.Groups.{linked_within}
-use Rattle.graph.proofs.Distances.{Near, near_start, near_more, unmet_more, lap_met, lap_end}
+use Rattle.graph.proofs.Distances.{Near}
 use Rattle.graph.proofs.lap.Given as goal
 
 abbrev pub invariant-loop-k : goal.invariant-loop-k

@@ -1,11 +1,7 @@
-use borrow.Author.Rules.{rules}
 use Prim.Native.Nat.{ℕ, ◌≤◌, ◌-◌}
-use mathlib.Core.Logic.{⊎_elim}
-use mathlib.Core.Path.{◌∙◌}
 use mathlib.Core.Bool.{Bool}
-use native.Mathlib.Omega.{arith}
 use Rattle.graph.specs.Rows.{Reached}
-use Rattle.graph.proofs.Groups.{Leading, leading_none, leading_yes, leading_no, leading_all, leads_same}
+use Rattle.graph.proofs.Groups.{Leading}
 use Rattle.graph.proofs.leaders.Given as goal
 
 abbrev pub invariant-loop-u : goal.invariant-loop-u

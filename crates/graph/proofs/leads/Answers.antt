@@ -1,8 +1,6 @@
 use borrow.Author.Rules.{rules}
-use Prim.Native.Nat.{ℕ, ◌≤◌, ◌<◌, ◌-◌}
-use lib.Dec.{T}
 use native.Mathlib.Nat.{not-suc-le-zero}
-use Rattle.graph.proofs.Groups.{joins, leads_off, leads_lower, leads_on, apart_from, apart_to}
+use Rattle.graph.proofs.Groups.{leads_off, leads_lower, leads_on, apart_from, apart_to}
 use Rattle.graph.proofs.leads.Goals as goal
 use Rattle.graph.proofs.leads.Goals.{then-contains-2+else-contains-3, else-contains-2}
 
@@ -14,14 +12,13 @@ returns-then-contains-3 c =
     leads_lower _ _ _ (c.row-reached.ensures) _ (c.contains.ensures) _ (c.loop-h-test.true) _ (c.contains-in-loop-h.ensures) (c.if-contains-2.true) _ (c.row.ensures) _ (c.contains-then-contains-2.ensures) c.if-contains-3.true
 
 pub loop-h-preserved : goal.loop-h-preserved
-loop-h-preserved c =
-    (
-        search rules,
-        elim c.if-contains-2.branch [
-          then-contains-2+else-contains-3 w ↦ apart_to _ _ _ (c.row-reached.ensures) _ (c.loop-h.invariant.1) _ (c.contains-in-loop-h.ensures) _ w.row.ensures _ w.contains-then-contains-2.ensures w.if-contains-3.false
-          | else-contains-2 w ↦ apart_from _ _ _ (c.row-reached.ensures) _ (c.loop-h.invariant.1) _ (c.contains-in-loop-h.ensures) w.if-contains-2.false
-        ],
-        )
+loop-h-preserved c = (
+  search rules,
+  elim c.if-contains-2.branch [
+    | then-contains-2+else-contains-3 w ↦ apart_to _ _ _ (c.row-reached.ensures) _ (c.loop-h.invariant.1) _ (c.contains-in-loop-h.ensures) _ w.row.ensures _ w.contains-then-contains-2.ensures w.if-contains-3.false
+    | else-contains-2 w ↦ apart_from _ _ _ (c.row-reached.ensures) _ (c.loop-h.invariant.1) _ (c.contains-in-loop-h.ensures) w.if-contains-2.false
+  ],
+)
 
 pub returns-then-contains : goal.returns-then-contains
 returns-then-contains c =

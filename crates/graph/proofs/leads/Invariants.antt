@@ -1,9 +1,6 @@
-use borrow.Author.Rules.{rules}
 use Prim.Native.Nat.{ℕ, ◌≤◌, ◌<◌, ◌-◌}
 use lib.Dec.{T}
-use mathlib.Core.Logic.{⊎_elim}
-use native.Mathlib.Nat.{not-suc-le-zero}
-use Rattle.graph.proofs.Groups.{joins, leads_off, leads_lower, leads_on, apart_from, apart_to}
+use Rattle.graph.proofs.Groups.{joins}
 use Rattle.graph.proofs.leads.Given as goal
 
 abbrev pub invariant-loop-h : goal.invariant-loop-h

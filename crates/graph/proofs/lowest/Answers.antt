@@ -1,9 +1,5 @@
 use borrow.Author.Rules.{rules}
-use Prim.Native.Nat.{ℕ, ◌≤◌, ◌<◌, ◌-◌}
 use native.Mathlib.Nat.{not-suc-le-zero}
-use lib.Dec.{T}
-use borrow.Author.Tests.{not-true, not-false}
-use Rattle.graph.specs.Rows.{ready_by}
 use Rattle.graph.proofs.Placing.{ready_placed, ready_waits, ready_found}
 use Rattle.graph.proofs.Tests.{search_end}
 use Rattle.graph.proofs.lowest.Goals as goal
@@ -17,14 +13,13 @@ returns-then-inside c =
     ready_found _ _ _ _ (c.loop-g-test.true) (c.loop-g.invariant.1) _ (c.contains.ensures) c.if-not-contains.true _ (c.row.ensures) _ (c.inside.ensures) c.if-inside.true
 
 pub loop-g-preserved : goal.loop-g-preserved
-loop-g-preserved c =
-    (
-        search rules,
-        elim c.if-not-contains.branch [
-          then-not-contains+else-inside w ↦ ready_waits _ _ _ _ (c.loop-g-test.true) (c.loop-g.invariant.1) _ (c.contains.ensures) w.if-not-contains.true _ w.row.ensures _ w.inside.ensures w.if-inside.false
-          | else-not-contains w ↦ ready_placed _ _ _ _ (c.loop-g-test.true) (c.loop-g.invariant.1) _ (c.contains.ensures) w.if-not-contains.false
-        ],
-        )
+loop-g-preserved c = (
+  search rules,
+  elim c.if-not-contains.branch [
+    | then-not-contains+else-inside w ↦ ready_waits _ _ _ _ (c.loop-g-test.true) (c.loop-g.invariant.1) _ (c.contains.ensures) w.if-not-contains.true _ w.row.ensures _ w.inside.ensures w.if-inside.false
+    | else-not-contains w ↦ ready_placed _ _ _ _ (c.loop-g-test.true) (c.loop-g.invariant.1) _ (c.contains.ensures) w.if-not-contains.false
+  ],
+)
 
 pub returns : goal.returns
 returns c = search_end _ _ _ c.loop-g-test.false (c.loop-g.invariant.1)

@@ -1,9 +1,6 @@
-use borrow.Author.Rules.{rules}
 use Prim.Native.Nat.{ℕ, ◌≤◌, ◌<◌, ◌-◌}
-use native.Mathlib.Nat.{not-suc-le-zero}
-use mathlib.Core.Logic.{⊎_elim}
 use lib.Dec.{T}
-use Rattle.graph.proofs.Ways.{next, next_far, next_apart, next_found, next_none}
+use Rattle.graph.proofs.Ways.{next}
 use Rattle.graph.proofs.next_gate.Given as goal
 
 abbrev pub invariant-loop-w : goal.invariant-loop-w

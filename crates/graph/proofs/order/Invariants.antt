@@ -1,8 +1,6 @@
-use borrow.Author.Rules.{rules}
 use Prim.Native.Nat.{◌≤◌, ◌-◌}
-use native.Mathlib.Omega.{arith}
 use Rattle.graph.specs.Rows.{linked}
-use Rattle.graph.proofs.Placing.{Ordering, ordering_none, ordering_more, ordering_stop, ordering_all}
+use Rattle.graph.proofs.Placing.{Ordering}
 use Rattle.graph.proofs.order.Given as goal
 
 abbrev pub invariant-loop-m : goal.invariant-loop-m

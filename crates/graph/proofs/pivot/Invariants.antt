@@ -1,8 +1,5 @@
-use borrow.Author.Rules.{rules}
 use Prim.Native.Nat.{◌≤◌, ◌-◌}
-use mathlib.Core.Logic.{⊎_elim}
 use Rattle.graph.specs.Rows.{Passed}
-use Rattle.graph.proofs.Groups.{passed_none, pass_on, pass_over, passed_all}
 use Rattle.graph.proofs.pivot.Given as goal
 
 abbrev pub invariant-loop-i : goal.invariant-loop-i

@@ -1,4 +1,3 @@
-use borrow.Author.Rules.{rules}
 use Rattle.graph.proofs.Rows.{row_laws}
 use Rattle.graph.proofs.put_row.Goals as goal
 

@@ -1,13 +1,8 @@
 use borrow.Author.Rules.{rules}
-use Prim.Native.Nat.{◌+◌}
-use mathlib.Core.Path.{◌≡◌}
-use lib.ListN.{length, length-set}
-use Rattle.rules.specs.Graph.{reaches}
-use lib.Dec.{T}
+use lib.ListN.{length-set}
 use native.Mathlib.Omega.{arith}
-use Rattle.graph.specs.Rows.{linked}
 use Rattle.graph.proofs.Groups.{linked_within}
-use Rattle.graph.proofs.Ways.{Tracing, tracing_none, tracing_more, tracing_all}
+use Rattle.graph.proofs.Ways.{tracing_none, tracing_more, tracing_all}
 use Rattle.graph.proofs.trace.Goals as goal
 
 pub loop-left-init : goal.loop-left-init
@@ -26,12 +21,11 @@ pub overflow_add-m : goal.overflow_add-m
 overflow_add-m c = omega (arith, c.requires.0, c.requires.2.high)
 
 pub loop-left-preserved : goal.loop-left-preserved
-loop-left-preserved c =
-    (
-        omega arith,
-        simp length-set (c.loop-left.invariant.1),
-        λ r. tracing_more _ _ (linked_within _ _) _ _ _ (c.requires.2) _ _ _ _ _ (c.loop-left.invariant.1) (omega (arith, c.requires.0, c.requires.2.high)) (c.loop-left-test.true) (omega arith) ((c.loop-left.invariant.2) r) (c.next_gate-u.ensures),
-        )
+loop-left-preserved c = (
+  omega arith,
+  simp length-set (c.loop-left.invariant.1),
+  λ r. tracing_more _ _ (linked_within _ _) _ _ _ (c.requires.2) _ _ _ _ _ (c.loop-left.invariant.1) (omega (arith, c.requires.0, c.requires.2.high)) (c.loop-left-test.true) (omega arith) ((c.loop-left.invariant.2) r) (c.next_gate-u.ensures),
+)
 
 pub returns : goal.returns
 returns c =

@@ -1,13 +1,10 @@
-use borrow.Author.Rules.{rules}
 use Prim.Native.Nat.{◌+◌}
 use mathlib.Core.Path.{◌≡◌}
-use lib.ListN.{length, length-set}
+use lib.ListN.{length}
 use Rattle.rules.specs.Graph.{reaches}
 use lib.Dec.{T}
-use native.Mathlib.Omega.{arith}
 use Rattle.graph.specs.Rows.{linked}
-use Rattle.graph.proofs.Groups.{linked_within}
-use Rattle.graph.proofs.Ways.{Tracing, tracing_none, tracing_more, tracing_all}
+use Rattle.graph.proofs.Ways.{Tracing}
 use Rattle.graph.proofs.trace.Given as goal
 
 abbrev pub invariant-loop-left : goal.invariant-loop-left

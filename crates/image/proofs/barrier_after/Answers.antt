@@ -1,4 +1,3 @@
-use borrow.Author.Rules.{rules}
 use Rattle.image.proofs.Payloads.{barrier_ends}
 use Rattle.image.proofs.barrier_after.Goals as goal
 

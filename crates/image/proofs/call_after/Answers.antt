@@ -1,4 +1,3 @@
-use borrow.Author.Rules.{rules}
 use Rattle.image.proofs.Payloads.{call_ends}
 use Rattle.image.proofs.call_after.Goals as goal
 

@@ -1,4 +1,3 @@
-use borrow.Author.Rules.{rules}
 use Rattle.image.proofs.Payloads.{call_counted, count_laws}
 use Rattle.image.proofs.call_lists_after.Goals as goal
 

@@ -1,4 +1,3 @@
-use borrow.Author.Rules.{rules}
 use Rattle.image.proofs.Payloads.{count_laws}
 use Rattle.image.proofs.counted_after.Goals as goal
 

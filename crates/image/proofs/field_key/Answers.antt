@@ -1,4 +1,3 @@
-use borrow.Author.Rules.{rules}
 use Rattle.image.proofs.Keys.{key_there, key_none}
 use Rattle.image.proofs.field_key.Goals as goal
 

@@ -1,4 +1,3 @@
-use borrow.Author.Rules.{rules}
 use Rattle.image.proofs.Lookup.{fresh_laws}
 use Rattle.image.proofs.fresh_name.Goals as goal
 

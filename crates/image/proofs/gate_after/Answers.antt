@@ -1,4 +1,3 @@
-use borrow.Author.Rules.{rules}
 use Rattle.image.proofs.Payloads.{gate_ends}
 use Rattle.image.proofs.gate_after.Goals as goal
 

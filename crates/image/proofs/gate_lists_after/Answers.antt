@@ -1,4 +1,3 @@
-use borrow.Author.Rules.{rules}
 use Rattle.image.proofs.Payloads.{gate_counted, count_laws}
 use Rattle.image.proofs.gate_lists_after.Goals as goal
 

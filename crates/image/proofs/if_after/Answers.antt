@@ -1,4 +1,3 @@
-use borrow.Author.Rules.{rules}
 use Rattle.image.proofs.Payloads.{if_ends}
 use Rattle.image.proofs.if_after.Goals as goal
 

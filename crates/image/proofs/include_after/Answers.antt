@@ -1,4 +1,3 @@
-use borrow.Author.Rules.{rules}
 use Rattle.image.proofs.Payloads.{include_ends}
 use Rattle.image.proofs.include_after.Goals as goal
 

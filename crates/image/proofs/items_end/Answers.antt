@@ -1,6 +1,5 @@
 use Rattle.std.proofs.Common.{tests}
 use borrow.Author.Rules.{rules}
-use borrow.Author.Tests.{ne_eqb}
 use mathlib.Core.Path.{◌∙◌}
 use Rattle.rules.specs.Reading.{items}
 use Rattle.items.specs.Ends.{after}

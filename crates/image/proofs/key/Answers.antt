@@ -1,7 +1,4 @@
 use borrow.Author.Rules.{rules}
-use Prim.Native.Nat.{◌<◌}
-use mathlib.Core.Path.{◌≡◌}
-use Rattle.image.specs.Table.{folded, key_of}
 use Rattle.image.proofs.Keys.{folded_start, folded_turn, folded_end}
 use Rattle.image.proofs.key.Goals as goal
 

@@ -1,9 +1,7 @@
 -- The loop's invariant: the words that are left, folded into what is there, give the key.
-use borrow.Author.Rules.{rules}
 use Prim.Native.Nat.{◌<◌}
 use mathlib.Core.Path.{◌≡◌}
 use Rattle.image.specs.Table.{folded, key_of}
-use Rattle.image.proofs.Keys.{folded_start, folded_turn, folded_end}
 use Rattle.image.proofs.key.Given as goal
 
 abbrev pub invariant-loop-more : goal.invariant-loop-more

@@ -1,4 +1,3 @@
-use borrow.Author.Rules.{rules}
 use Rattle.image.proofs.Lookup.{unmarked}
 use Rattle.image.proofs.known.Goals as goal
 

@@ -1,9 +1,5 @@
 use borrow.Author.Rules.{rules}
-use Prim.Native.Nat.{◌≤◌, ◌-◌}
-use mathlib.Core.Path.{◌≡◌}
-use Rattle.rules.specs.Reading.{among}
-use Rattle.image.specs.Table.{names_of, tabled}
-use Rattle.image.proofs.Lookup.{names_from, known_start, listed_turn, listed_hit, listed_end}
+use Rattle.image.proofs.Lookup.{known_start, listed_turn, listed_hit, listed_end}
 use Rattle.image.proofs.listed.Goals as goal
 
 pub loop-i-init : goal.loop-i-init

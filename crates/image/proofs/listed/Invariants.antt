@@ -1,10 +1,9 @@
 -- The loop's invariant: the name is among all exactly if it is among those that are left.
-use borrow.Author.Rules.{rules}
 use Prim.Native.Nat.{◌≤◌, ◌-◌}
 use mathlib.Core.Path.{◌≡◌}
 use Rattle.rules.specs.Reading.{among}
 use Rattle.image.specs.Table.{names_of, tabled}
-use Rattle.image.proofs.Lookup.{names_from, known_start, listed_turn, listed_hit, listed_end}
+use Rattle.image.proofs.Lookup.{names_from}
 use Rattle.image.proofs.listed.Given as goal
 
 abbrev pub invariant-loop-i : goal.invariant-loop-i

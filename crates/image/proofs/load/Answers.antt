@@ -1,4 +1,3 @@
-use borrow.Author.Rules.{rules}
 use Rattle.image.proofs.Field.{load_laws}
 use Rattle.image.proofs.load.Goals as goal
 

@@ -1,4 +1,3 @@
-use borrow.Author.Rules.{rules}
 use Rattle.image.proofs.Tags.{next_is}
 use Rattle.image.proofs.next_counts.Goals as goal
 

@@ -1,4 +1,3 @@
-use borrow.Author.Rules.{rules}
 use Rattle.image.proofs.Keys.{notes_laws}
 use Rattle.image.proofs.noted.Goals as goal
 

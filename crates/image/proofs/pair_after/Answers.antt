@@ -1,4 +1,3 @@
-use borrow.Author.Rules.{rules}
 use Rattle.image.proofs.Payloads.{pair_ends}
 use Rattle.image.proofs.pair_after.Goals as goal
 

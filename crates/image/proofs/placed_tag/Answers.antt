@@ -1,4 +1,3 @@
-use borrow.Author.Rules.{rules}
 use Rattle.image.proofs.Tags.{placed_laws}
 use Rattle.image.proofs.placed_tag.Goals as goal
 

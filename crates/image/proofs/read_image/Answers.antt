@@ -1,10 +1,9 @@
-use borrow.Author.Rules.{rules}
 use mathlib.Core.Path.{refl, sym, ap, ◌∙◌}
 use native.Mathlib.Omega.{arith}
-use Prim.Native.Nat.{ℕ, ◌-◌}
-use lib.ListN.{length, length-replicate}
+use Prim.Native.Nat.{ℕ}
+use lib.ListN.{length-replicate}
 use Rattle.rules.specs.declared.Skip.TheVariants as skip
-use Rattle.image.specs.Table.{table, tabled, Keyed, Marked}
+use Rattle.image.specs.Table.{table}
 use Rattle.image.proofs.Keys.{keyed_none, keyed_turn}
 use Rattle.image.proofs.Loop.{heard, too_long, refused_reads, ready_start, ready_stop, ready_turn, ready_end}
 use Rattle.image.proofs.read_image.Goals as goal
@@ -44,8 +43,8 @@ loop-at-smaller c =
 pub loop-at-preserved : goal.loop-at-preserved
 unfolding table
 loop-at-preserved c = (
-    ready_turn _ _ _ _ c.loop-at.invariant.0 c.loop-at-test.true _ c.field_end.ensures _ c.in-Next.is _ _ _ _ c.byte_at-tag.ensures.0 c.load-p.ensures c.next_counts-c.ensures c.noted-n.ensures.place,
-    keyed_turn _ _ _ _ _ _ _ c.loop-at.invariant.1.0 c.loop-at.invariant.1.1 _ _ _ _ _ c.byte_at-tag.ensures.0 c.field_key-k.ensures c.noted-n.ensures,
+  ready_turn _ _ _ _ c.loop-at.invariant.0 c.loop-at-test.true _ c.field_end.ensures _ c.in-Next.is _ _ _ _ c.byte_at-tag.ensures.0 c.load-p.ensures c.next_counts-c.ensures c.noted-n.ensures.place,
+  keyed_turn _ _ _ _ _ _ _ c.loop-at.invariant.1.0 c.loop-at.invariant.1.1 _ _ _ _ _ c.byte_at-tag.ensures.0 c.field_key-k.ensures c.noted-n.ensures,
 )
 
 pub returns : goal.returns

@@ -1,13 +1,8 @@
 -- The loop's invariant is `Ready`: what is read from here on, after the fields that are done, is the whole reading; with the keys of the names.
-use borrow.Author.Rules.{rules}
-use mathlib.Core.Path.{refl, sym, ap, ◌∙◌}
-use native.Mathlib.Omega.{arith}
-use Prim.Native.Nat.{ℕ, ◌-◌}
-use lib.ListN.{length, length-replicate}
-use Rattle.rules.specs.declared.Skip.TheVariants as skip
-use Rattle.image.specs.Table.{table, tabled, Keyed, Marked}
-use Rattle.image.proofs.Keys.{keyed_none, keyed_turn}
-use Rattle.image.proofs.Loop.{Ready, Told, heard, too_long, refused_reads, ready_start, ready_stop, ready_turn, ready_end}
+use Prim.Native.Nat.{◌-◌}
+use lib.ListN.{length}
+use Rattle.image.specs.Table.{tabled, Keyed, Marked}
+use Rattle.image.proofs.Loop.{Ready}
 use Rattle.image.proofs.read_image.Given as goal
 
 abbrev pub invariant-loop-at : goal.invariant-loop-at

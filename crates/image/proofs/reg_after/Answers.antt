@@ -1,4 +1,3 @@
-use borrow.Author.Rules.{rules}
 use Rattle.image.proofs.Payloads.{reg_ends}
 use Rattle.image.proofs.reg_after.Goals as goal
 

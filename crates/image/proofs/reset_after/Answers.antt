@@ -1,4 +1,3 @@
-use borrow.Author.Rules.{rules}
 use Rattle.image.proofs.Payloads.{reset_ends}
 use Rattle.image.proofs.reset_after.Goals as goal
 

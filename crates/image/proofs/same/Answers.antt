@@ -1,8 +1,5 @@
 use borrow.Author.Rules.{rules}
-use Prim.Native.Nat.{◌≤◌, ◌-◌}
-use mathlib.Core.Path.{◌≡◌, sym}
-use lib.ListN.{length, drop}
-use Rattle.rules.specs.Reading.{same_bytes}
+use mathlib.Core.Path.{sym}
 use Rattle.image.proofs.Lookup.{same_len, same_turn, same_off, same_end}
 use Rattle.image.proofs.same.Goals as goal
 

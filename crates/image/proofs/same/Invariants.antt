@@ -1,10 +1,8 @@
 -- The loop's invariant: what is left of the two compares as the whole does.
-use borrow.Author.Rules.{rules}
 use Prim.Native.Nat.{◌≤◌, ◌-◌}
-use mathlib.Core.Path.{◌≡◌, sym}
+use mathlib.Core.Path.{◌≡◌}
 use lib.ListN.{length, drop}
 use Rattle.rules.specs.Reading.{same_bytes}
-use Rattle.image.proofs.Lookup.{same_len, same_turn, same_off, same_end}
 use Rattle.image.proofs.same.Given as goal
 
 abbrev pub invariant-loop-i : goal.invariant-loop-i

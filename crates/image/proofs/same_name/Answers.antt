@@ -1,4 +1,3 @@
-use borrow.Author.Rules.{rules}
 use Rattle.image.proofs.Lookup.{alike, unlike}
 use Rattle.image.proofs.same_name.Goals as goal
 

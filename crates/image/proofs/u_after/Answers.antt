@@ -1,4 +1,3 @@
-use borrow.Author.Rules.{rules}
 use Rattle.image.proofs.Payloads.{u_ends}
 use Rattle.image.proofs.u_after.Goals as goal
 

@@ -1,4 +1,3 @@
-use borrow.Author.Rules.{rules}
 use Rattle.image.proofs.Tags.{within_laws}
 use Rattle.image.proofs.within_tag.Goals as goal
 

@@ -1,6 +1,4 @@
-use borrow.Author.Rules.{rules}
 use Rattle.items.proofs.Exprs.{expr_laws}
-use Prim.Native.Nat.{ℕ, ◌<◌}
 use Rattle.items.proofs.+expr_end.Goals as goal
 
 pub returns-then-depth-eq0 : goal.returns-then-depth-eq0

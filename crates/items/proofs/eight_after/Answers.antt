@@ -1,4 +1,3 @@
-use borrow.Author.Rules.{rules}
 use Rattle.items.specs.Ends.{end_laws}
 use Rattle.items.proofs.eight_after.Goals as goal
 

@@ -1,4 +1,3 @@
-use borrow.Author.Rules.{rules}
 use Rattle.items.proofs.Numbers.{short_8}
 use Rattle.items.proofs.eight_at.Goals as goal
 

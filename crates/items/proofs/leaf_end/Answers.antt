@@ -1,4 +1,3 @@
-use borrow.Author.Rules.{rules}
 use Rattle.items.proofs.Exprs.{leaf_laws}
 use Rattle.items.proofs.leaf_end.Goals as goal
 

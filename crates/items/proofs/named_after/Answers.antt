@@ -1,4 +1,3 @@
-use borrow.Author.Rules.{rules}
 use Rattle.items.specs.Ends.{named_ends}
 use Rattle.items.proofs.named_after.Goals as goal
 

@@ -1,8 +1,5 @@
 use borrow.Author.Rules.{rules}
-use Prim.Native.Nat.{◌≤◌, ◌-◌}
-use mathlib.Core.Path.{◌≡◌}
-use Rattle.rules.specs.Items.{times, named}
-use Rattle.items.specs.Ends.{after, times_start, times_turn, times_end}
+use Rattle.items.specs.Ends.{times_start, times_turn, times_end}
 use Rattle.items.proofs.nameds_after.Goals as goal
 
 pub loop-i-init : goal.loop-i-init

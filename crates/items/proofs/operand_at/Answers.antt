@@ -1,4 +1,3 @@
-use borrow.Author.Rules.{rules}
 use Rattle.items.proofs.Operands.{operand_laws}
 use Rattle.items.proofs.operand_at.Goals as goal
 

@@ -1,9 +1,8 @@
 -- The loop's invariant: what is left to read from here ends where all of it does.
-use borrow.Author.Rules.{rules}
 use Prim.Native.Nat.{◌≤◌, ◌-◌}
 use mathlib.Core.Path.{◌≡◌}
 use Rattle.rules.specs.Items.{times, an, operand}
-use Rattle.items.specs.Ends.{after, times_start, times_turn, times_end}
+use Rattle.items.specs.Ends.{after}
 use Rattle.items.proofs.operands_after.Given as goal
 
 abbrev pub invariant-loop-i : goal.invariant-loop-i

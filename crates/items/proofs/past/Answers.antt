@@ -1,4 +1,3 @@
-use borrow.Author.Rules.{rules}
 use Rattle.items.proofs.past.Goals as goal
 
 pub returns-in-No : goal.returns-in-No

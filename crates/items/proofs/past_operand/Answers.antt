@@ -1,4 +1,3 @@
-use borrow.Author.Rules.{rules}
 use Rattle.items.proofs.past_operand.Goals as goal
 
 pub returns-in-No : goal.returns-in-No

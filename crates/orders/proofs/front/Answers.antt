@@ -1,4 +1,3 @@
-use borrow.Author.Rules.{rules}
 use Rattle.orders.proofs.Listing.{front_all, front_part}
 use Rattle.orders.proofs.front.Goals as goal
 

@@ -1,4 +1,3 @@
-use borrow.Author.Rules.{rules}
 use Rattle.orders.proofs.Listing.{order_laws}
 use Rattle.orders.proofs.order.Goals as goal
 

@@ -1,4 +1,3 @@
-use borrow.Author.Rules.{rules}
 use native.Mathlib.Omega.{arith}
 use Rattle.orders.proofs.Listing.{rejected, room_short, all_listed}
 use Rattle.orders.proofs.order_read.Goals as goal

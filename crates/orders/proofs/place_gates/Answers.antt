@@ -1,4 +1,3 @@
-use borrow.Author.Rules.{rules}
 use Rattle.orders.proofs.Listing.{readied}
 use Rattle.orders.proofs.place_gates.Goals as goal
 

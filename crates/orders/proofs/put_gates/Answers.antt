@@ -1,8 +1,5 @@
-use borrow.Author.Rules.{rules}
-use mathlib.Core.Path.{◌≡◌, refl, ◌∙◌}
-use Prim.Native.Nat.{◌-◌}
-use lib.ListN.{length}
-use Rattle.orders.proofs.Listing.{Left, left_less, left_none}
+use mathlib.Core.Path.{refl, ◌∙◌}
+use Rattle.orders.proofs.Listing.{left_less, left_none}
 use Rattle.orders.proofs.put_gates.Goals as goal
 
 pub loop-i-init : goal.loop-i-init

@@ -1,8 +1,7 @@
-use borrow.Author.Rules.{rules}
-use mathlib.Core.Path.{◌≡◌, refl, ◌∙◌}
+use mathlib.Core.Path.{◌≡◌}
 use Prim.Native.Nat.{◌-◌}
 use lib.ListN.{length}
-use Rattle.orders.proofs.Listing.{Left, left_less, left_none}
+use Rattle.orders.proofs.Listing.{Left}
 use Rattle.orders.proofs.put_gates.Given as goal
 
 abbrev pub invariant-loop-i : goal.invariant-loop-i

@@ -1,5 +1,4 @@
-use borrow.Author.Rules.{rules}
-use Rattle.output.specs.Bytes.{wrote_in, wrote_out}
+use Rattle.output.specs.Bytes.{wrote_out}
 use Rattle.output.proofs.put1.Goals as goal
 
 pub returns-else-at-out : goal.returns-else-at-out

@@ -1,4 +1,3 @@
-use borrow.Author.Rules.{rules}
 use Rattle.output.specs.Bytes.{wrote_2}
 use Rattle.std.proofs.Common.{refl}
 use Rattle.output.proofs.put2.Goals as goal

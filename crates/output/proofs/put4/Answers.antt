@@ -1,4 +1,3 @@
-use borrow.Author.Rules.{rules}
 use Rattle.output.specs.Bytes.{wrote_4}
 use mathlib.Core.Path.{refl}
 use Rattle.output.proofs.put4.Goals as goal

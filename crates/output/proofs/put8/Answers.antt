@@ -1,4 +1,3 @@
-use borrow.Author.Rules.{rules}
 use Rattle.output.specs.Bytes.{wrote_2}
 use mathlib.Core.Path.{refl}
 use Rattle.output.proofs.put8.Goals as goal

@@ -1,5 +1,3 @@
-use borrow.Author.Rules.{rules}
-use mathlib.Core.Path.{refl}
 use Rattle.output.proofs.put_flag.Goals as goal
 
 pub returns-then-v : goal.returns-then-v

@@ -1,4 +1,3 @@
-use borrow.Author.Rules.{rules}
 use mathlib.Core.Path.{refl}
 use Rattle.output.specs.Bytes.{wrote_5}
 use Rattle.output.proofs.put_named.Goals as goal

@@ -1,4 +1,3 @@
-use borrow.Author.Rules.{rules}
 use mathlib.Core.Path.{refl}
 use Rattle.output.specs.Bytes.{wrote_4}
 use Rattle.output.proofs.put_operand.Goals as goal

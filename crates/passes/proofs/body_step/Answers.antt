@@ -1,4 +1,3 @@
-use borrow.Author.Rules.{rules}
 use Rattle.passes.proofs.Turns.{body_stmt, body_other}
 use mathlib.Core.Path.{refl}
 use Rattle.passes.proofs.body_step.Goals as goal

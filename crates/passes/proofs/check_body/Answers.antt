@@ -1,13 +1,8 @@
-use borrow.Author.Rules.{rules}
-use mathlib.Core.Path.{◌≡◌, refl, ◌∙◌}
-use mathlib.Core.Bool.{false}
-use Prim.Native.Nat.{◌-◌}
+use mathlib.Core.Path.{refl, ◌∙◌}
 use native.Mathlib.Omega.{arith}
-use lib.ListN.{length}
 use Rattle.rules.specs.Errors.{error_field}
-use Rattle.output.specs.Sinks.{Owes, owes_all, owes_none}
-use Rattle.tables.specs.Tables.{scope_in}
-use Rattle.passes.proofs.Turns.{bodies, bodies_end, body_over, moved}
+use Rattle.output.specs.Sinks.{owes_all, owes_none}
+use Rattle.passes.proofs.Turns.{bodies_end, body_over, moved}
 use Rattle.passes.proofs.check_body.Goals as goal
 
 pub loop-w-init : goal.loop-w-init

@@ -1,4 +1,3 @@
-use borrow.Author.Rules.{rules}
 use Rattle.tables.specs.Zeros.{zeros, zeros_length, zeros_word}
 use Rattle.passes.proofs.Scopes.{body_checked}
 use Rattle.passes.proofs.check_def.Goals as goal

@@ -1,11 +1,8 @@
-use borrow.Author.Rules.{rules}
-use mathlib.Core.Path.{◌≡◌, refl, ◌∙◌}
-use Prim.Native.Nat.{◌-◌}
+use mathlib.Core.Path.{refl, ◌∙◌}
 use native.Mathlib.Omega.{arith}
-use lib.ListN.{length}
 use Rattle.rules.specs.Errors.{error_field}
 use Rattle.output.specs.Sinks.{owes_all, owes_none}
-use Rattle.passes.proofs.Turns.{DefsOwed, defs_end, defs_moved}
+use Rattle.passes.proofs.Turns.{defs_end, defs_moved}
 use Rattle.passes.proofs.check_defs.Goals as goal
 
 pub loop-w-init : goal.loop-w-init

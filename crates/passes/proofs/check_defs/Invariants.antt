@@ -1,11 +1,7 @@
-use borrow.Author.Rules.{rules}
-use mathlib.Core.Path.{◌≡◌, refl, ◌∙◌}
+use mathlib.Core.Path.{◌≡◌}
 use Prim.Native.Nat.{◌-◌}
-use native.Mathlib.Omega.{arith}
 use lib.ListN.{length}
-use Rattle.rules.specs.Errors.{error_field}
-use Rattle.output.specs.Sinks.{owes_all, owes_none}
-use Rattle.passes.proofs.Turns.{DefsOwed, defs_end, defs_moved}
+use Rattle.passes.proofs.Turns.{DefsOwed}
 use Rattle.passes.proofs.check_defs.Given as goal
 
 abbrev pub invariant-loop-w : goal.invariant-loop-w

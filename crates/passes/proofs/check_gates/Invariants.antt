@@ -1,13 +1,11 @@
-use borrow.Author.Rules.{rules}
-use mathlib.Core.Path.{◌≡◌, refl, ◌∙◌}
+use mathlib.Core.Path.{◌≡◌}
 use mathlib.Core.Bool.{false}
 use Prim.Native.Nat.{◌-◌}
-use native.Mathlib.Omega.{arith}
 use lib.ListN.{length}
 use Rattle.rules.specs.Errors.{error_field}
-use Rattle.output.specs.Sinks.{Owes, owes_all, owes_none}
+use Rattle.output.specs.Sinks.{Owes}
 use Rattle.tables.specs.Tables.{scope_in}
-use Rattle.passes.proofs.Turns.{tops, tops_end, moved}
+use Rattle.passes.proofs.Turns.{tops}
 use Rattle.passes.proofs.check_gates.Given as goal
 
 abbrev pub invariant-loop-w : goal.invariant-loop-w

@@ -1,4 +1,3 @@
-use borrow.Author.Rules.{rules}
 use Rattle.passes.proofs.Turns.{def_inside, def_body, def_opaque, def_other}
 use Rattle.passes.proofs.def_step.Goals as goal
 

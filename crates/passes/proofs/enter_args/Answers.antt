@@ -1,6 +1,4 @@
-use borrow.Author.Rules.{rules}
-use Rattle.views.specs.View.{named_in, row_in}
-use Rattle.passes.proofs.Scopes.{ArgsLeft, args_all, args_none, args_more}
+use Rattle.passes.proofs.Scopes.{args_all, args_none, args_more}
 use Rattle.passes.proofs.enter_args.Goals as goal
 
 pub loop-left-init : goal.loop-left-init

@@ -1,6 +1,5 @@
-use borrow.Author.Rules.{rules}
 use Rattle.views.specs.View.{named_in, row_in}
-use Rattle.passes.proofs.Scopes.{ArgsLeft, args_all, args_none, args_more}
+use Rattle.passes.proofs.Scopes.{ArgsLeft}
 use Rattle.passes.proofs.enter_args.Given as goal
 
 abbrev pub invariant-loop-left : goal.invariant-loop-left

@@ -1,6 +1,4 @@
-use borrow.Author.Rules.{rules}
-use Rattle.views.specs.View.{named_in, row_in}
-use Rattle.passes.proofs.Scopes.{ParamsLeft, params_all, params_none, params_more}
+use Rattle.passes.proofs.Scopes.{params_all, params_none, params_more}
 use Rattle.passes.proofs.enter_params.Goals as goal
 
 pub loop-left-init : goal.loop-left-init

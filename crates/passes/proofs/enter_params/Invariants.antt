@@ -1,6 +1,5 @@
-use borrow.Author.Rules.{rules}
 use Rattle.views.specs.View.{named_in, row_in}
-use Rattle.passes.proofs.Scopes.{ParamsLeft, params_all, params_none, params_more}
+use Rattle.passes.proofs.Scopes.{ParamsLeft}
 use Rattle.passes.proofs.enter_params.Given as goal
 
 abbrev pub invariant-loop-left : goal.invariant-loop-left

@@ -1,4 +1,3 @@
-use borrow.Author.Rules.{rules}
 use Rattle.passes.proofs.Turns.{then_laws}
 use Rattle.passes.proofs.then_inside.Goals as goal
 

@@ -1,4 +1,3 @@
-use borrow.Author.Rules.{rules}
 use Rattle.passes.proofs.Turns.{top_inside, top_stmt, top_other}
 use Rattle.passes.proofs.top_step.Goals as goal
 

@@ -1,4 +1,3 @@
-use borrow.Author.Rules.{rules}
 use Rattle.pesukoymi.proofs.Laying.{called_short, called_long}
 use native.Mathlib.Omega.{arith}
 use Rattle.pesukoymi.proofs.pesukoymi_expand.Goals as goal

@@ -1,4 +1,3 @@
-use borrow.Author.Rules.{rules}
 use Rattle.pesukoymi.proofs.Laying.{answer_laid}
 use Rattle.pesukoymi.proofs.put_answer.Goals as goal
 

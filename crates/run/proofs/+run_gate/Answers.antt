@@ -1,16 +1,9 @@
-use borrow.Author.Rules.{rules}
-use mathlib.Core.Path.{◌≡◌, refl, ◌∙◌}
-use mathlib.Core.List.{[]}
-use Prim.Native.Nat.{◌-◌}
+use mathlib.Core.Path.{refl, ◌∙◌}
 use native.Mathlib.Omega.{arith}
-use lib.ListN.{length}
 use Rattle.rules.specs.Run.{entry_field}
-use Rattle.views.specs.View.{rest}
-use Rattle.output.specs.Sinks.{Owes, owes_less, owes_none, put_none}
-use Rattle.run.specs.Lines.{gate_lines, sees}
+use Rattle.output.specs.Sinks.{owes_less, owes_none, put_none}
 use Rattle.run.proofs.Turns.{owes_from}
-use Rattle.run.proofs.Bodies.{gate_zero, gate_opaque, gate_body, Lines, body_plain, body_over, body_done, skip_turn, walk_turn, not_true, not_false}
-use Prim.Native.Nat.{ℕ, ◌<◌}
+use Rattle.run.proofs.Bodies.{gate_zero, gate_opaque, gate_body, body_plain, body_over, body_done, skip_turn, walk_turn}
 use Rattle.run.proofs.+run_gate.Goals as goal
 
 pub returns-then-depth-eq0 : goal.returns-then-depth-eq0

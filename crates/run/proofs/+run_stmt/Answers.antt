@@ -1,9 +1,5 @@
-use borrow.Author.Rules.{rules}
-use Prim.Native.Nat.{◌-◌}
 use native.Mathlib.Omega.{arith}
-use lib.ListN.{length}
 use Rattle.run.proofs.Tops.{does_end, does_if, does_call, does_plain, does_none, none_seen}
-use Prim.Native.Nat.{ℕ, ◌<◌}
 use Rattle.run.proofs.+run_stmt.Goals as goal
 
 pub returns-then-img-at : goal.returns-then-img-at

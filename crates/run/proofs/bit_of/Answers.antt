@@ -1,12 +1,4 @@
-use borrow.Author.Rules.{rules}
-use mathlib.Core.Path.{◌≡◌}
-use Prim.Native.Nat.{◌+◌, ◌≤◌}
-use mathlib.Core.List.{map}
 use native.Mathlib.Omega.{arith}
-use lib.ListN.{get_or, drop}
-use Rattle.rules.specs.Checking.{argument}
-use Rattle.views.specs.View.{named_in, row_in}
-use Rattle.run.specs.Lines.{sees, seen}
 use Rattle.run.proofs.Turns.{seen_all, seen_turn, seen_over}
 use Rattle.run.proofs.bit_of.Goals as goal
 

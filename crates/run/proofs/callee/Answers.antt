@@ -1,4 +1,3 @@
-use borrow.Author.Rules.{rules}
 use Rattle.run.proofs.Laws.{walk_laws}
 use Rattle.run.proofs.callee.Goals as goal
 

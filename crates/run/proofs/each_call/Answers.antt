@@ -1,15 +1,9 @@
-use borrow.Author.Rules.{rules}
-use mathlib.Core.Path.{◌≡◌, refl, ◌∙◌}
-use Prim.Native.Nat.{◌-◌}
-use mathlib.Core.List.{map}
+use mathlib.Core.Path.{refl, ◌∙◌}
 use native.Mathlib.Omega.{arith}
 use mathlib.Core.Path.{ap}
-use lib.ListN.{length, get_or}
-use Rattle.rules.specs.Checking.{quantum}
-use Rattle.views.specs.View.{operand_in, row_in}
 use Rattle.rules.specs.Run.{entry_field}
-use Rattle.output.specs.Sinks.{Owes, owes_less, owes_none}
-use Rattle.run.specs.Lines.{turn_list, spread_in, lanes_in, full, gate_lines}
+use Rattle.output.specs.Sinks.{owes_less, owes_none}
+use Rattle.run.specs.Lines.{gate_lines}
 use Rattle.run.proofs.Turns.{owes_from, turns_more, turns_none}
 use Rattle.run.proofs.Tops.{calls_all, lanes_part}
 use Rattle.run.proofs.each_call.Goals as goal

@@ -1,13 +1,10 @@
-use borrow.Author.Rules.{rules}
-use mathlib.Core.Path.{◌≡◌, refl, ◌∙◌}
+use mathlib.Core.Path.{◌≡◌}
 use Prim.Native.Nat.{◌-◌}
 use mathlib.Core.List.{[], ◌∷◌}
 use lib.ListN.{length}
 use Rattle.rules.specs.Run.{entry_field}
-use Rattle.output.specs.Sinks.{Owes, owes_less, owes_none}
+use Rattle.output.specs.Sinks.{Owes}
 use Rattle.run.specs.Lines.{turn_list, one_of, lane_of, one_turns}
-use Rattle.run.proofs.Turns.{owes_from, ones_all, turns_more, turns_none}
-use mathlib.Core.Path.{ap}
 use Rattle.run.proofs.each_one.Given as goal
 
 abbrev pub invariant-loop-j : goal.invariant-loop-j

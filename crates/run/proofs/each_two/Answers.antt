@@ -1,11 +1,8 @@
-use borrow.Author.Rules.{rules}
-use mathlib.Core.Path.{◌≡◌, refl, ◌∙◌}
-use Prim.Native.Nat.{◌-◌}
+use mathlib.Core.Path.{refl, ◌∙◌}
 use mathlib.Core.List.{[], ◌∷◌}
-use lib.ListN.{length}
 use Rattle.rules.specs.Run.{entry_field}
-use Rattle.output.specs.Sinks.{Owes, owes_less, owes_none}
-use Rattle.run.specs.Lines.{turn_list, two_of, lane_of, two_turns}
+use Rattle.output.specs.Sinks.{owes_less, owes_none}
+use Rattle.run.specs.Lines.{two_of}
 use Rattle.run.proofs.Turns.{owes_from, twos_all, turns_more, turns_none}
 use mathlib.Core.Path.{ap₂}
 use Rattle.run.proofs.each_two.Goals as goal

@@ -1,4 +1,3 @@
-use borrow.Author.Rules.{rules}
 use Rattle.run.proofs.Laws.{either_laws}
 use Rattle.run.proofs.either.Goals as goal
 

@@ -1,4 +1,3 @@
-use borrow.Author.Rules.{rules}
 use Rattle.run.proofs.Laws.{lane_laws}
 use Rattle.run.proofs.lane.Goals as goal
 

@@ -1,13 +1,8 @@
 use borrow.Author.Rules.{rules}
-use mathlib.Core.Path.{◌≡◌, ◌∙◌}
+use mathlib.Core.Path.{◌∙◌}
 use Prim.Native.Nat.{ℕ}
-use Prim.Native.Nat.{◌+◌, ◌-◌, ◌≤◌}
-use mathlib.Core.List.{◌++◌, map}
 use native.Mathlib.Omega.{arith}
-use lib.ListN.{length, take, length-set, length-replicate}
-use Rattle.rules.specs.Checking.{quantum}
-use Rattle.views.specs.View.{operand_in, row_in}
-use Rattle.run.specs.Lines.{lanes_in, sees}
+use lib.ListN.{length-set, length-replicate}
 use Rattle.run.proofs.Turns.{lanes_turn, lanes_over, lanes_all}
 use Rattle.run.proofs.lanes.Goals as goal
 

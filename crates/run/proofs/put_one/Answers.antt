@@ -1,4 +1,3 @@
-use borrow.Author.Rules.{rules}
 use Rattle.run.proofs.Laws.{one_u, one_reset, one_barrier}
 use Rattle.run.proofs.put_one.Goals as goal
 

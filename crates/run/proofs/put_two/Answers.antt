@@ -1,4 +1,3 @@
-use borrow.Author.Rules.{rules}
 use Rattle.run.proofs.Laws.{two_measure, two_cx}
 use Rattle.run.proofs.put_two.Goals as goal
 

@@ -1,14 +1,11 @@
-use borrow.Author.Rules.{rules}
-use mathlib.Core.Path.{◌≡◌, refl, ◌∙◌}
-use Prim.Native.Nat.{◌-◌}
+use mathlib.Core.Path.{◌≡◌}
 use mathlib.Core.List.{map}
 use lib.ListN.{length, get_or}
 use Rattle.rules.specs.Checking.{quantum}
 use Rattle.views.specs.View.{operand_in, row_in}
 use Rattle.rules.specs.Run.{entry_field}
-use Rattle.output.specs.Sinks.{Owes, owes_less, owes_none, put_then}
+use Rattle.output.specs.Sinks.{Owes}
 use Rattle.run.specs.Lines.{barrier_row, sees}
-use Rattle.run.proofs.Turns.{owes_from, barrier_more, barrier_none}
 use Rattle.run.proofs.run_barrier.Given as goal
 
 abbrev pub invariant-loop-left : goal.invariant-loop-left

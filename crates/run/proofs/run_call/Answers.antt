@@ -1,4 +1,3 @@
-use borrow.Author.Rules.{rules}
 use Rattle.run.proofs.Tops.{ran_skip, ran_walk}
 use Rattle.run.proofs.run_call.Goals as goal
 

@@ -1,4 +1,3 @@
-use borrow.Author.Rules.{rules}
 use Rattle.run.proofs.Laws.{ran_one}
 use Rattle.run.proofs.run_one.Goals as goal
 

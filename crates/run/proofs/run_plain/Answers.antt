@@ -1,4 +1,3 @@
-use borrow.Author.Rules.{rules}
 use mathlib.Core.Path.{refl}
 use Rattle.run.proofs.Laws.{plain_u, plain_cx, plain_measure, plain_reset, plain_barrier, plain_none}
 use Rattle.run.proofs.run_plain.Goals as goal

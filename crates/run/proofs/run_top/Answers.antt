@@ -1,14 +1,9 @@
-use borrow.Author.Rules.{rules}
-use mathlib.Core.Path.{◌≡◌, refl, ◌∙◌}
-use Prim.Native.Nat.{◌-◌}
+use mathlib.Core.Path.{refl, ◌∙◌}
 use native.Mathlib.Omega.{arith}
-use mathlib.Core.Bool.{false}
-use lib.ListN.{length}
 use Rattle.rules.specs.Run.{entry_field}
-use Rattle.output.specs.Sinks.{Owes, owes_none}
-use Rattle.run.specs.Lines.{full, gate_lines}
+use Rattle.output.specs.Sinks.{owes_none}
 use Rattle.run.proofs.Turns.{owes_from}
-use Rattle.run.proofs.Tops.{tops_from, tops_end, moved}
+use Rattle.run.proofs.Tops.{tops_end, moved}
 use Rattle.run.proofs.run_top.Goals as goal
 
 pub loop-w-init : goal.loop-w-init

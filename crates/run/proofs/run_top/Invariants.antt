@@ -1,14 +1,11 @@
-use borrow.Author.Rules.{rules}
-use mathlib.Core.Path.{◌≡◌, refl, ◌∙◌}
+use mathlib.Core.Path.{◌≡◌}
 use Prim.Native.Nat.{◌-◌}
-use native.Mathlib.Omega.{arith}
 use mathlib.Core.Bool.{false}
 use lib.ListN.{length}
 use Rattle.rules.specs.Run.{entry_field}
-use Rattle.output.specs.Sinks.{Owes, owes_none}
+use Rattle.output.specs.Sinks.{Owes}
 use Rattle.run.specs.Lines.{full, gate_lines}
-use Rattle.run.proofs.Turns.{owes_from}
-use Rattle.run.proofs.Tops.{tops_from, tops_end, moved}
+use Rattle.run.proofs.Tops.{tops_from}
 use Rattle.run.proofs.run_top.Given as goal
 
 abbrev pub invariant-loop-w : goal.invariant-loop-w

@@ -1,4 +1,3 @@
-use borrow.Author.Rules.{rules}
 use Rattle.run.proofs.Laws.{ran_two}
 use Rattle.run.proofs.run_two.Goals as goal
 

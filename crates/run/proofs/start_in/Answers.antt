@@ -1,4 +1,3 @@
-use borrow.Author.Rules.{rules}
 use Rattle.run.proofs.Laws.{start_laws}
 use Rattle.run.proofs.start_in.Goals as goal
 

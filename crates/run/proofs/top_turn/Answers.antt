@@ -1,4 +1,3 @@
-use borrow.Author.Rules.{rules}
 use Rattle.run.proofs.Tops.{top_inside, top_stmt, top_other}
 use Rattle.run.proofs.top_turn.Goals as goal
 

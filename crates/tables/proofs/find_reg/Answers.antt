@@ -1,4 +1,3 @@
-use borrow.Author.Rules.{rules}
 use Rattle.tables.proofs.Words.{find_laws}
 use Rattle.tables.proofs.find_reg.Goals as goal
 

@@ -1,4 +1,3 @@
-use borrow.Author.Rules.{rules}
 use Rattle.tables.proofs.Words.{row_far, row_four}
 use mathlib.Core.Path.{refl}
 use Rattle.tables.proofs.set_gate.Goals as goal

@@ -1,4 +1,3 @@
-use borrow.Author.Rules.{rules}
 use Rattle.tables.proofs.Words.{param_none, param_there}
 use mathlib.Core.Path.{refl}
 use Rattle.tables.proofs.set_param.Goals as goal

@@ -1,4 +1,3 @@
-use borrow.Author.Rules.{rules}
 use Rattle.tables.proofs.Words.{store_out}
 use Rattle.tables.proofs.store.Goals as goal
 

@@ -1,4 +1,3 @@
-use borrow.Author.Rules.{rules}
 use Rattle.tables.proofs.Words.{word_past}
 use Rattle.tables.proofs.word_at.Goals as goal
 

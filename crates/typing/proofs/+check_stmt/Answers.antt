@@ -1,9 +1,5 @@
-use borrow.Author.Rules.{rules}
-use Prim.Native.Nat.{◌-◌}
-use lib.ListN.{length}
 use native.Mathlib.Omega.{arith}
 use Rattle.typing.proofs.Statements.{done_if, done_laws}
-use Prim.Native.Nat.{ℕ, ◌<◌}
 use Rattle.typing.proofs.+check_stmt.Goals as goal
 
 pub returns-then-img-at : goal.returns-then-img-at

@@ -1,4 +1,3 @@
-use borrow.Author.Rules.{rules}
 use Rattle.typing.proofs.Statements.{barrier_said}
 use Rattle.typing.proofs.check_barrier.Goals as goal
 

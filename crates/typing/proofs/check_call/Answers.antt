@@ -1,4 +1,3 @@
-use borrow.Author.Rules.{rules}
 use Rattle.typing.proofs.Statements.{call_said}
 use Rattle.typing.proofs.check_call.Goals as goal
 

@@ -1,4 +1,3 @@
-use borrow.Author.Rules.{rules}
 use Rattle.typing.proofs.Statements.{cx_said}
 use mathlib.Core.Path.{refl}
 use Rattle.typing.proofs.check_cx.Goals as goal

@@ -1,4 +1,3 @@
-use borrow.Author.Rules.{rules}
 use Rattle.typing.proofs.Statements.{measure_said}
 use mathlib.Core.Path.{refl}
 use Rattle.typing.proofs.check_measure.Goals as goal

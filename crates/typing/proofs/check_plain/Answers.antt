@@ -1,4 +1,3 @@
-use borrow.Author.Rules.{rules}
 use Rattle.typing.proofs.Statements.{tag_laws}
 use Rattle.typing.proofs.check_plain.Goals as goal
 

@@ -1,4 +1,3 @@
-use borrow.Author.Rules.{rules}
 use Rattle.typing.proofs.Statements.{reset_said}
 use Rattle.typing.proofs.check_reset.Goals as goal
 

@@ -1,4 +1,3 @@
-use borrow.Author.Rules.{rules}
 use Rattle.typing.proofs.Statements.{u_laws}
 use Rattle.typing.proofs.check_u.Goals as goal
 

@@ -1,4 +1,3 @@
-use borrow.Author.Rules.{rules}
 use Rattle.typing.proofs.Statements.{stmt_low, stmt_high}
 use Rattle.typing.proofs.is_stmt.Goals as goal
 

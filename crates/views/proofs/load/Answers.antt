@@ -1,4 +1,3 @@
-use borrow.Author.Rules.{rules}
 use Rattle.views.proofs.Places.{load_none, load_part}
 use native.Mathlib.Omega.{arith}
 use Rattle.views.proofs.load.Goals as goal

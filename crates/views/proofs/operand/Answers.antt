@@ -1,4 +1,3 @@
-use borrow.Author.Rules.{rules}
 use Rattle.views.proofs.Places.{operand_made, operand_whole}
 use Rattle.views.proofs.operand.Goals as goal
 

@@ -1,4 +1,3 @@
-use borrow.Author.Rules.{rules}
 use Rattle.graph.proofs.Holding.{contains_laws}
 use Rattle.graph.proofs.sets.contains.Goals as goal
 

@@ -1,4 +1,3 @@
-use borrow.Author.Rules.{rules}
 use Rattle.graph.proofs.Digits.{digit_shr}
 use mathlib.Core.Path.{sym}
 use Rattle.graph.proofs.sets.has_digit.Goals as goal

@@ -1,4 +1,3 @@
-use borrow.Author.Rules.{rules}
 use Rattle.graph.proofs.Holding.{with_laws}
 use Rattle.graph.proofs.sets.with.Goals as goal
 

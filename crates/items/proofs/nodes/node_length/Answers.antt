@@ -1,5 +1,4 @@
 use Rattle.std.proofs.Common.{rules, tests}
-use borrow.Author.Tests.{ne_eqb}
 use Rattle.items.specs.Node.{node_length}
 use Rattle.items.proofs.nodes.node_length.Goals as goal
 

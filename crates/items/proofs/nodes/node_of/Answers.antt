@@ -1,4 +1,3 @@
-use borrow.Author.Rules.{rules}
 use Rattle.items.proofs.NodeLaws.{node_laws}
 use Rattle.items.proofs.nodes.node_of.Goals as goal
 

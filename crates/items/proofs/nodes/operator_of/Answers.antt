@@ -1,5 +1,4 @@
 use Rattle.std.proofs.Common.{rules, tests}
-use borrow.Author.Tests.{ne_eqb}
 use Rattle.items.specs.Node.{operator}
 use Rattle.items.proofs.nodes.operator_of.Goals as goal
 
