@@ -35,6 +35,7 @@ proofs = os.path.join(work, 'crates', 'rules', 'proofs')
 page = open(os.path.join(proofs, 'Specimens.antt')).read()
 opens = re.search(r'^unfolding .*$', page, re.M).group(0)
 head = page[:page.index('-- ---- fields of an image')]
+head = re.sub(r'(declared\.Answer\.TheVariants\.)\{.*\}', r'\1{Done, Errors, Refused, Rejected, Machine, Entries, Room}', head)
 head = head.replace('check_read, check, laid_run', 'check_read, check, order_read, order, laid_run') + 'use Rattle.rules.specs.Order as gates\n\n'
 record = page[page.index('pub record Specimen'):page.index('abbrev pub checks')]
 tables = page[page.index('-- a buffer of just the length'):page.index('pub specimens')]
@@ -45,7 +46,7 @@ for n, (image, words) in enumerate(cases):
     text += f'pub s{n} : given t{n} ≡ wanted t{n}\n{opens} order_read order gates.order gates.order_from gates.ready gates.has gates.order_of\ns{n} = refl\n\n'
 open(os.path.join(proofs, 'Samples.antt'), 'w').write(text)
 open(os.path.join(proofs, 'Lib.antt'), 'a').write('pub mod Samples\n')
-run = subprocess.run(['rt', 'check'], cwd=work, capture_output=True, text=True)
+run = subprocess.run(['rt', 'check'], cwd=os.path.join(work, 'crates', 'rules'), capture_output=True, text=True)
 shutil.rmtree(work)
 if run.returncode:
     print((run.stdout + run.stderr)[-4000:])
