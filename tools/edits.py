@@ -7,7 +7,7 @@ import sys
 
 def faults(path):
     """What is wrong with an edit; later pairs apply to what the earlier ones made."""
-    text, old, pairs = None, None, 0
+    named, old, pairs, texts = None, "", 0, {}
     for line in open(path, encoding="utf-8").read().split("\n"):
         word, _, rest = line.partition(":")
         rest = rest[1:] if rest.startswith(" ") else rest
@@ -15,14 +15,15 @@ def faults(path):
             named = os.path.join(os.path.dirname(os.path.dirname(path)), rest)
             if not os.path.exists(named):
                 return ["no file " + rest]
-            text = open(named, encoding="utf-8").read()
+            texts.setdefault(named, open(named, encoding="utf-8").read())
         elif word == "old":
             old = rest
         elif word == "new":
             pairs += 1
-            if text is None or text.count(old) != 1:
-                return [f"stands {text.count(old) if text else 0} times: {old}"]
-            text = text.replace(old, rest)
+            stands = texts.get(named, "").count(old) if old else 0
+            if stands != 1:
+                return [f"stands {stands} times: {old}"]
+            texts[named] = texts[named].replace(old, rest)
     return [] if pairs else ["no pair of old: and new:"]
 
 
