@@ -14,8 +14,8 @@ if ! rt ci >"$log" 2>&1; then
 fi
 ok=$(grep '^rt: ok' "$log" || true)
 printf '%s\n' "$ok"
-# rt ci passes an edit that it cannot apply or compile; here that is a fault.
-if grep -qE ', [1-9][0-9]* bad' <<<"$ok"; then
+# rt ci passes an edit that it cannot apply or compile; here that is a fault, and so is a run that does not say how it went.
+if [ -z "$ok" ] || grep -qE ', [1-9][0-9]* bad' <<<"$ok"; then
     grep -F 'BAD EDIT' "$log" || true
     exit 1
 fi

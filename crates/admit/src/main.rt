@@ -7,8 +7,9 @@ use std::io;
 use texts::read_full;
 
 // A word and a number on a line.
-fn line(rt: &impl Print, word: &str, n: u64) -> io::Result<()> {
-    println!(rt; "{word} {n}")
+fn line(rt: &impl Print, word: &[u8], n: u64) -> io::Result<()> {
+    rt.write_all(word)?;
+    println!(rt; "{n}")
 }
 
 // The first bytes of a buffer.
@@ -22,16 +23,16 @@ fn write_part(rt: &impl Print, out: &[u8], bytes: usize) -> io::Result<()> {
 fn tell(rt: &impl Print, image: &[u8], out: &mut [u8]) -> io::Result<()> {
     let a = check(image, out);
     match a {
-        Answer::Done { items, bytes: _ } => line(rt, "accepted", items as u64),
+        Answer::Done { items, bytes: _ } => line(rt, b"accepted ", items as u64),
         Answer::Errors { errors, bytes } => {
-            line(rt, "errors", errors as u64)?;
+            line(rt, b"errors ", errors as u64)?;
             write_part(rt, out, bytes)
         }
-        Answer::Refused { number, offset: _ } => line(rt, "refused", number),
-        Answer::Rejected => line(rt, "refused", 8),
-        Answer::Machine => line(rt, "refused", 9),
-        Answer::Entries => line(rt, "refused", 10),
-        Answer::Room { items: _, bytes: _ } => line(rt, "refused", 11),
+        Answer::Refused { number, offset: _ } => line(rt, b"refused ", number),
+        Answer::Rejected => line(rt, b"refused ", 8),
+        Answer::Machine => line(rt, b"refused ", 9),
+        Answer::Entries => line(rt, b"refused ", 10),
+        Answer::Room { items: _, bytes: _ } => line(rt, b"refused ", 11),
     }
 }
 
