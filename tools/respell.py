@@ -1,8 +1,8 @@
 #!/usr/bin/env python3
 """Brings this repository's own definitions and lemmas to the spelling of today's Rattle, after the kit's port.py: words in snake case
 (`valueSize` and `value-low` become `value_size` and `value_low`), a lemma that would have its definition's name gets `_lem`.
-Run once, at the top, on what port.py left. It turns specs/, proofs/, the clauses and comments of src/, the must-fail edits, and the names
-that stand between backticks in README and docs/. Functions of src/ and strings keep their names."""
+Run once, at the top, on what port.py left. It turns specs/, proofs/, the clauses and comments of src/, and the names that stand between
+backticks in README and docs/. Functions of src/, strings and must-fail edits keep their text."""
 import glob
 import re
 
@@ -49,7 +49,6 @@ def declared():
 
 def spelling(names):
     """Old spelling to new, of those that change; no two names fall together."""
-    plain = {n for n in names if not re.search(r"[a-z0-9][A-Z]|-", n)}
     words = [n for n in names if re.match(r"\+?[a-z0-9]", n) and re.search(r"[a-z0-9][A-Z]|-", n) and not MADE.match(n)]
     new = {n: snake(n) for n in words if "-" not in n}
     taken = set(new.values())
