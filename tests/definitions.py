@@ -10,6 +10,7 @@ if not os.path.exists(samples):
     sys.exit()
 
 ANSWERS = {0: 'Done {a} {b}', 1: 'Errors {a} {b}', 8: 'Rejected', 9: 'Machine', 10: 'Entries', 11: 'Room {a} {b}'}
+FAULTS = {2: 'TooLong', 3: 'Cut', 4: 'BadTag', 5: 'BadItem', 6: 'BadName', 7: 'TooMany'}
 
 
 def listed(data):
@@ -18,7 +19,7 @@ def listed(data):
 
 def row(service, n, words):
     number, a, b = map(int, words[:3])
-    answer = ANSWERS.get(number, 'Refused {k} {a}').format(a=a, b=b, k=number)
+    answer = ANSWERS.get(number, 'Refused {k} {a}').format(a=a, b=b, k=FAULTS.get(number))
     writes = bytes.fromhex(words[3]) if len(words) > 3 else b''
     return f'record {{ service = {service}; image = img{n}; answer = {answer}; writes = {listed(writes)} }}'
 
@@ -36,7 +37,8 @@ page = open(os.path.join(proofs, 'Specimens.antt')).read()
 opens = re.search(r'^unfolding .*$', page, re.M).group(0)
 head = page[:page.index('-- ---- fields of an image')]
 head = re.sub(r'(declared\.Answer\.TheVariants\.)\{.*\}', r'\1{Done, Errors, Refused, Rejected, Machine, Entries, Room}', head)
-head = head.replace('check_read, check, laid_run', 'check_read, check, order_read, order, laid_run') + 'use Rattle.rules.specs.Order as gates\n\n'
+head = head.replace('check_read, check, laid_run', 'check_read, check, order_read, order, laid_run')
+head += 'use Rattle.rules.specs.declared.Fault.TheVariants.{' + ', '.join(FAULTS.values()) + '}\nuse Rattle.rules.specs.Order as gates\n\n'
 record = page[page.index('pub record Specimen'):page.index('abbrev pub checks')]
 tables = page[page.index('-- a buffer of just the length'):page.index('pub specimens')]
 text = head + record + tables

@@ -3,41 +3,37 @@
 
 use checks::check;
 use rules::Answer;
+use std::fmt::Display;
 use std::io;
 use texts::read_full;
 
 // A word and a number on a line.
-fn line(rt: &impl Print, word: &[u8], n: u64) -> io::Result<()> {
+fn line<N: Display + Drop>(rt: &impl Print, word: &[u8], n: N) -> io::Result<()> {
     rt.write_all(word)?;
     println!(rt; "{n}")
 }
 
 // The first bytes of a buffer.
 fn write_part(rt: &impl Print, out: &[u8], bytes: usize) -> io::Result<()> {
-    if bytes <= out.len() {
-        rt.write_all(&out[..bytes])?;
+    match out.get(..bytes) {
+        Some(part) => rt.write_all(part),
+        None => Ok(()),
     }
-    Ok(())
 }
 
 fn tell(rt: &impl Print, image: &[u8], out: &mut [u8]) -> io::Result<()> {
-    let a = check(image, out);
-    match a {
-        Answer::Done { items, bytes: _ } => line(rt, b"accepted ", items as u64),
+    match check(image, out) {
+        Answer::Done { items, .. } => line(rt, b"accepted ", items),
         Answer::Errors { errors, bytes } => {
-            line(rt, b"errors ", errors as u64)?;
+            line(rt, b"errors ", errors)?;
             write_part(rt, out, bytes)
         }
-        Answer::Refused { number, offset: _ } => line(rt, b"refused ", number),
-        Answer::Rejected => line(rt, b"refused ", 8),
-        Answer::Machine => line(rt, b"refused ", 9),
-        Answer::Entries => line(rt, b"refused ", 10),
-        Answer::Room { items: _, bytes: _ } => line(rt, b"refused ", 11),
+        refusal => line(rt, b"refused ", u64::from(refusal)),
     }
 }
 
 fn main(rt: HostRuntime) -> io::Result<()> {
-    // one byte more than an image may have, so that a longer one is seen to be
+    // one byte more than an image may have, so that a longer one is seen to be; a buffer beside its count, since there is no heap
     let mut image = [0u8; 65537];
     let n = read_full(&mut rt.stdin(), &mut image)?;
     let mut out = [0u8; 65536];

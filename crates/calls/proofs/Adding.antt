@@ -1,4 +1,5 @@
 -- Calls put into the rows, one after another.
+use Rattle.std.specs.Prelude.{Option, Some, None, option_map, unwrap_or}
 use mathlib.Core.Path.{◌≡◌, refl, sym, ap, ◌∙◌, subst}
 use mathlib.Core.Logic.{◌≢◌}
 use mathlib.Core.Bool.{Bool, true, false, ◌&&◌, ◌||◌, or-false, or-true, or_assoc, and-false}
@@ -6,13 +7,11 @@ use mathlib.Core.List.{List, [], ◌∷◌, ◌++◌}
 use Prim.Native.Nat.{ℕ, ◌+◌, ◌*◌, ◌≤◌, ◌<◌}
 use native.Mathlib.Decide.{ℕ_discrete}
 use native.Mathlib.Omega.{arith}
-use borrow.Author.Tests.{lt-ltb, le-ltb, eq-eqb, ne_eqb, ltb-false}
+use borrow.Author.Tests.{lt-ltb, eq-eqb, ne_eqb, ltb-false}
 use lib.ListN.{length, get_or, set, length-set}
 use lib.Seq.{get_or-set_same, get_or-set_other}
 use lib.Dec.{T, eqb, ltb}
 use Rattle.rules.specs.declared.Header.{Header}
-use Rattle.rules.specs.declared.FoundGate.{FoundGate}
-use Rattle.rules.specs.declared.FoundGate.TheVariants.{Known, Unknown}
 use Rattle.rules.specs.Basics.{pick, first}
 use Rattle.rules.specs.Items.{le4}
 use Rattle.rules.specs.Syntax.{Gate}
@@ -20,51 +19,54 @@ use Rattle.rules.specs.Checking.{gate_at, number_of, is_gate, header_of, header}
 use Rattle.rules.specs.Calls.{Call, stmt_calls, between, edge, earliest}
 use Rattle.theorems.specs.Search.{first_le, pick_same}
 use Rattle.views.specs.View.{name_in, call_in}
-use Rattle.tables.specs.Tables.{gate_in}
+use Rattle.graph.specs.declared.sets.Set.{Set}
 use Rattle.graph.specs.Rows.{calls, NoCalls, OneMore}
-use Rattle.calls.specs.Collecting.{Numbered, Added, Has}
+use Rattle.calls.specs.declared.Calls.{Calls}
+use Rattle.calls.specs.Collecting.{Numbered, named, Added, Has}
 
 -- ---- the number of a name
 
-module _ (gs : List Gate) (x : ℕ) where
-  known_number : (h : Header) → header gs x ≡ Known h → h.number ≡ number_of gs x
+module _ (gates : List ℕ) (gs : List Gate) (n : ℕ) (N : Numbered gates n gs) (x : ℕ) where
+  -- by the rules' own words
+  by_number : named gates x ≡ pick (is_gate gs x) (Some (number_of gs x)) None
   unfolding header
-  known_number h e = go (is_gate gs x) e
+  by_number = ap (option_map (λ (h : Header). h.number)) (sym (N.known x)) ∙ go (is_gate gs x)
     where
-      go : (b : Bool) → pick b (Known (header_of gs (number_of gs x))) Unknown ≡ Known h → h.number ≡ number_of gs x
-      go true q = let z : header_of gs (number_of gs x) ≡ h = cc in ap (λ (k : Header). k.number) (sym z)
-      go false q = let z : ◌≡◌ {A = ℕ} 0 1 = cc in absurd (omega arith)
+      go : (b : Bool) → option_map (λ (h : Header). h.number) (pick b (Some (header_of gs (number_of gs x))) None) ≡ pick b (Some (number_of gs x)) None
+      go true = refl
+      go false = refl
 
-  unknown_number : header gs x ≡ Unknown → length gs ≡ number_of gs x
-  unfolding header is_gate number_of
-  unknown_number e = go (ltb (number_of gs x) (length gs)) refl e
+  -- n stands for none
+  pub named_or : unwrap_or (named gates x) n ≡ number_of gs x
+  unfolding is_gate number_of
+  named_or = ap (λ (r : Option ℕ). unwrap_or r n) by_number ∙ go (ltb (number_of gs x) (length gs)) refl
     where
       go : (b : Bool) → ltb (first (length gs) (λ i. eqb (gate_at gs i).name x)) (length gs) ≡ b
-          → pick b (Known (header_of gs (first (length gs) (λ i. eqb (gate_at gs i).name x)))) Unknown ≡ Unknown
-          → length gs ≡ first (length gs) (λ i. eqb (gate_at gs i).name x)
-      go true q f = let z : ◌≡◌ {A = ℕ} 0 1 = cc in absurd (omega arith)
-      go false q f =
-          let l = ltb-false (first (length gs) (λ i. eqb (gate_at gs i).name x)) (length gs) q in
-          omega (arith, first_le (length gs) (λ i. eqb (gate_at gs i).name x))
-
-module _ (gates : List ℕ) (x n : ℕ) (f : FoundGate) (e : f ≡ gate_in gates x) where
-  pub number_known : (h : Header) → f ≡ Known h → (gs : List Gate) → Numbered gates n gs → h.number ≡ number_of gs x
-  number_known h p gs N = known_number gs x h (N.known x ∙ sym e ∙ p)
-
-  pub number_none : f ≡ Unknown → (gs : List Gate) → Numbered gates n gs → n ≡ number_of gs x
-  number_none p gs N = N.count ∙ unknown_number gs x (N.known x ∙ sym e ∙ p)
-
-pub ruleset number_laws = (number_known, number_none)
+          → unwrap_or (pick b (Some (first (length gs) (λ i. eqb (gate_at gs i).name x))) None) n ≡ first (length gs) (λ i. eqb (gate_at gs i).name x)
+      go true e = refl
+      go false e =
+          let l = ltb-false (first (length gs) (λ i. eqb (gate_at gs i).name x)) (length gs) e in
+          omega (arith, first_le (length gs) (λ i. eqb (gate_at gs i).name x), N.count)
 
 -- ---- one call
 
-pub added_none : (t s : List ℕ) → length t ≡ 256 → Added [] t t s s
+pub added_none : (c : Calls) → Added [] c c
 unfolding edge
-added_none t s e = record { size = e; long = refl; rows = λ a b x y. sym (or-false (calls t a b)); spans = λ r a b x y. sym (pick_same (calls t a b) (get_or s (128 * a + b) 0)) }
+added_none c = record {
+  long = refl;
+  rows = λ a b x y. sym (or-false (calls c.graph.rows a b));
+  spans = λ r a b x y. sym (pick_same (calls c.graph.rows a b) (get_or c.spans.now (128 * a + b) 0));
+}
 
-module _ (u w sp : ℕ) (t s : List ℕ) where
+module _ (u w sp : ℕ) (c : Calls) where
   abbrev one : Call
   one = record { from = u; to = w; span = sp }
+
+  abbrev t : List Set
+  t = c.graph.rows
+
+  abbrev s : List ℕ
+  s = c.spans.now
 
   -- by and of other gates
   other : (a b : ℕ) → (a ≡ u → b ≡ w → ⊥) → between one a b ≡ false
@@ -76,12 +78,14 @@ module _ (u w sp : ℕ) (t s : List ℕ) where
   itself : between one u w ≡ true
   itself = rw (eq-eqb u u refl, eq-eqb w w refl) refl
 
-  keeps : (t' s' : List ℕ) → length t' ≡ 256 → length s' ≡ length s
-      → ((a b : ℕ) → a < 128 → b < 128 → (a ≡ u → b ≡ w → ⊥) → (calls t' a b ≡ calls t a b) × (16384 ≤ length s → get_or s' (128 * a + b) 0 ≡ get_or s (128 * a + b) 0))
-      → (u < 128 → w < 128 → (calls t' u w ≡ true) × (16384 ≤ length s → get_or s' (128 * u + w) 0 ≡ pick (calls t u w) (get_or s (128 * u + w) 0) sp)) → Added (one ∷ []) t t' s s'
+  keeps : (c' : Calls) → length c'.spans.now ≡ length s
+      → ((a b : ℕ) → a < 128 → b < 128 → (a ≡ u → b ≡ w → ⊥)
+      → (calls c'.graph.rows a b ≡ calls t a b) × (16384 ≤ length s → get_or c'.spans.now (128 * a + b) 0 ≡ get_or s (128 * a + b) 0))
+      → (u < 128 → w < 128
+      → (calls c'.graph.rows u w ≡ true) × (16384 ≤ length s → get_or c'.spans.now (128 * u + w) 0 ≡ pick (calls t u w) (get_or s (128 * u + w) 0) sp))
+      → Added (one ∷ []) c c'
   unfolding edge earliest
-  keeps t' s' size long old new = record {
-    size = size;
+  keeps c' long old new = record {
     long = long;
     rows = λ a b x y. elim (ℕ_discrete a u) [
       | yes p ↦ elim (ℕ_discrete b w) [
@@ -99,25 +103,25 @@ module _ (u w sp : ℕ) (t s : List ℕ) where
     ];
   }
     where
-      apart : (a b : ℕ) → a < 128 → b < 128 → (a ≡ u → b ≡ w → ⊥) → calls t' a b ≡ (calls t a b || (between one a b || false))
+      apart : (a b : ℕ) → a < 128 → b < 128 → (a ≡ u → b ≡ w → ⊥) → calls c'.graph.rows a b ≡ (calls t a b || (between one a b || false))
       apart a b x y f = rw (other a b f) ((old a b x y f).0 ∙ sym (or-false (calls t a b)))
 
-  pub add_out : 128 ≤ u → length t ≡ 256 → Added (one ∷ []) t t s s
-  add_out h e = keeps t s e refl (λ a b x y f. (refl, λ r. refl)) (λ x y. absurd (omega arith))
+  pub add_out : 128 ≤ u → Added (one ∷ []) c c
+  add_out h = keeps c refl (λ a b x y f. (refl, λ r. refl)) (λ x y. absurd (omega arith))
 
-  pub add_past : 128 ≤ w → length t ≡ 256 → Added (one ∷ []) t t s s
-  add_past h e = keeps t s e refl (λ a b x y f. (refl, λ r. refl)) (λ x y. absurd (omega arith))
+  pub add_past : 128 ≤ w → Added (one ∷ []) c c
+  add_past h = keeps c refl (λ a b x y f. (refl, λ r. refl)) (λ x y. absurd (omega arith))
 
-  module _ (h : u < 128) (k : w < 128) (c : Bool) (q : c ≡ (ltb u 128 && calls t u w)) where
-    was : c ≡ calls t u w
+  module _ (h : u < 128) (k : w < 128) (d : Bool) (q : d ≡ (ltb u 128 && calls t u w)) where
+    was : d ≡ calls t u w
     was = q ∙ (rw (lt-ltb u 128 h) refl)
 
-    pub add_had : c ≡ true → length t ≡ 256 → Added (one ∷ []) t t s s
-    add_had e size = keeps t s size refl (λ a b x y f. (refl, λ r. refl)) (λ x y. (sym was ∙ e, λ r. rw (← was, e) refl))
+    pub add_had : d ≡ true → Added (one ∷ []) c c
+    add_had e = keeps c refl (λ a b x y f. (refl, λ r. refl)) (λ x y. (sym was ∙ e, λ r. rw (← was, e) refl))
 
-    pub add_new : c ≡ false → (s' t' : List ℕ) → s' ≡ set s (128 * u + w) sp → OneMore u w t t' → Added (one ∷ []) t t' s s'
-    add_new e s' t' g O =
-        keeps t' s' O.size (ap length g ∙ length-set s (128 * u + w) sp)
+    pub add_new : d ≡ false → (c' : Calls) → c'.spans.now ≡ set s (128 * u + w) sp → OneMore u w t c'.graph.rows → Added (one ∷ []) c c'
+    add_new e c' g O =
+        keeps c' (ap length g ∙ length-set s (128 * u + w) sp)
         (λ a b x y f. (
           O.now a b x y ∙ ap (λ (z : Bool). calls t a b || z) (other a b f) ∙ or-false (calls t a b),
           λ r.
@@ -130,25 +134,26 @@ module _ (u w sp : ℕ) (t s : List ℕ) where
               rw (← was, e) (ap (λ (l : List ℕ). get_or l (128 * u + w) 0) g ∙ get_or-set_same s (128 * u + w) sp 0 (omega arith)),
         ))
 
-pub ruleset add_laws = (add_out, add_past, add_had, add_new)
+-- ---- the CALL of a field
 
--- ---- the call of a field
+module _ (p gates : List ℕ) (from : ℕ) (c : Calls) (r : Option ℕ) (e : r ≡ named gates (name_in p 8)) where
+  abbrev by : ℕ → List Call
+  by to = record { from = from; to = to; span = le4 p 0 } ∷ []
 
-module _ (p : List ℕ) (gates : List ℕ) (n from to : ℕ) (f : (gs : List Gate) → Numbered gates n gs → to ≡ number_of gs (name_in p 8)) (t s : List ℕ) where
-  pub call_some : to < n → (sp : ℕ) → sp ≡ le4 p 0 → (t' s' : List ℕ) → Added (record { from = from; to = to; span = sp } ∷ []) t t' s s'
-      → (gs : List Gate) → Numbered gates n gs → Added (stmt_calls gs from (call_in p)) t t' s s'
-  unfolding stmt_calls call_in is_gate
-  call_some h sp es t' s' A gs N =
-      let e = f gs N in
-      let l : number_of gs (name_in p 8) < length gs = omega (arith, N.count) in
-      rw (lt-ltb (number_of gs (name_in p 8)) (length gs) l, ← e, ← es) A
+  call_pick : (n : ℕ) (gs : List Gate) → Numbered gates n gs → stmt_calls gs from (call_in p) ≡ unwrap_or (option_map by r) []
+  unfolding stmt_calls call_in
+  call_pick n gs N = rw (e, by_number gates gs n N (name_in p 8)) (go (is_gate gs (name_in p 8)))
+    where
+      go : (b : Bool) → pick b (by (number_of gs (name_in p 8))) [] ≡ unwrap_or (option_map by (pick b (Some (number_of gs (name_in p 8))) None)) []
+      go true = refl
+      go false = refl
 
-  pub call_none : n ≤ to → length t ≡ 256 → (gs : List Gate) → Numbered gates n gs → Added (stmt_calls gs from (call_in p)) t t s s
-  unfolding stmt_calls call_in is_gate
-  call_none h size gs N =
-      let e = f gs N in
-      let l : length gs ≤ number_of gs (name_in p 8) = omega (arith, N.count) in
-      rw (le-ltb (number_of gs (name_in p 8)) (length gs) l) (added_none t s size)
+  pub call_some : (to : ℕ) → r ≡ Some to → (sp : ℕ) → sp ≡ le4 p 0 → (c' : Calls) → Added (record { from = from; to = to; span = sp } ∷ []) c c'
+      → (n : ℕ) (gs : List Gate) → Numbered gates n gs → Added (stmt_calls gs from (call_in p)) c c'
+  call_some to q sp es c' A n gs N = rw (call_pick n gs N, q, ← es) A
+
+  pub call_none : r ≡ None → (n : ℕ) (gs : List Gate) → Numbered gates n gs → Added (stmt_calls gs from (call_in p)) c c
+  call_none q n gs N = rw (call_pick n gs N, q) (added_none c)
 
 -- ---- calls one after another
 
@@ -167,22 +172,22 @@ earliest_append (c ∷ cs) ds a b = go (between c a b) (earliest_append cs ds a 
     go true e = refl
     go false e = e
 
--- of the calls `all`, those in `rest` are not in the rows yet
-pub record Left (all rest : List Call) (t s : List ℕ) : Type 0 where
-  pub size : length t ≡ 256
-  pub rows : (a b : ℕ) → a < 128 → b < 128 → (calls t a b || edge rest a b) ≡ edge all a b
-  pub spans : 16384 ≤ length s → (a b : ℕ) → a < 128 → b < 128 → pick (calls t a b) (get_or s (128 * a + b) 0) (earliest rest a b) ≡ earliest all a b
+-- of the calls `all`, those in `rest` were not met yet
+pub record Left (all rest : List Call) (c : Calls) : Type 0 where
+  pub rows : (a b : ℕ) → a < 128 → b < 128 → (calls c.graph.rows a b || edge rest a b) ≡ edge all a b
+  pub spans : 16384 ≤ length c.spans.now → (a b : ℕ) → a < 128 → b < 128 → pick (calls c.graph.rows a b) (get_or c.spans.now (128 * a + b) 0) (earliest rest a b) ≡ earliest all a b
 
-pub left_all : (all rest : List Call) (t s : List ℕ) → all ≡ rest → NoCalls t → Left all rest t s
-left_all all rest t s e N = record {
-  size = N.size;
+pub left_all : (all rest : List Call) (c : Calls) → all ≡ rest → NoCalls c.graph.rows → Left all rest c
+left_all all rest c e N = record {
   rows = λ a b x y. rw (N.none a b) (ap (λ (l : List Call). edge l a b) (sym e));
   spans = λ r a b x y. rw (N.none a b) (ap (λ (l : List Call). earliest l a b) (sym e));
 }
 
-pub left_less : (all rest cs ds : List Call) (t s t' s' : List ℕ) → Left all rest t s → rest ≡ cs ++ ds → Added cs t t' s s' → Left all ds t' s'
-left_less all rest cs ds t s t' s' L e A = record {
-  size = A.size;
+pub left_as : {all rest ds : List Call} {c : Calls} → Left all rest c → rest ≡ ds → Left all ds c
+left_as L e = rw (← e) L
+
+pub left_less : {all rest cs ds : List Call} {c c' : Calls} → Left all rest c → rest ≡ cs ++ ds → Added cs c c' → Left all ds c'
+left_less {all} {rest} {cs} {ds} {c} {c'} L e A = record {
   rows = λ a b x y.
       ap (λ (z : Bool). z || edge ds a b) (A.rows a b x y) ∙ or_assoc (calls t a b) (edge cs a b) (edge ds a b)
       ∙ ap (λ (z : Bool). calls t a b || z) (sym (ap (λ (l : List Call). edge l a b) e ∙ edge_append cs ds a b)) ∙ L.rows a b x y;
@@ -193,23 +198,29 @@ left_less all rest cs ds t s t' s' L e A = record {
       ∙ ap (λ (z : ℕ). pick (calls t a b) (get_or s (128 * a + b) 0) z) (sym (ap (λ (l : List Call). earliest l a b) e ∙ earliest_append cs ds a b)) ∙ L.spans room a b x y);
 }
   where
+    t : List Set
+    t = c.graph.rows
+
+    s : List ℕ
+    s = c.spans.now
+
     go : (x y : Bool) (v w z : ℕ) → pick (x || y) (pick x v (pick y w v)) z ≡ pick x v (pick y w z)
     go true y v w z = refl
     go false true v w z = refl
     go false false v w z = refl
 
-pub left_none : (all rest : List Call) (t s : List ℕ) → Left all rest t s → rest ≡ [] → Has all t s
+pub left_none : (all rest : List Call) (c : Calls) (s : List ℕ) → c.spans.now ≡ s → Left all rest c → rest ≡ [] → Has all c.graph.rows s
 unfolding edge earliest
-left_none all rest t s L e = record {
-  size = L.size;
+left_none all rest c s es L e = record {
+  size = c.graph.wide;
   rows = rows;
-  spans = λ r a b x y o.
-      sym (ap (λ (z : Bool). pick z (get_or s (128 * a + b) 0) (earliest [] a b)) (on (calls t a b) (subst T (sym (rows a b x y)) o)))
-      ∙ ap (λ (l : List Call). pick (calls t a b) (get_or s (128 * a + b) 0) (earliest l a b)) (sym e) ∙ L.spans r a b x y;
+  spans = rw (← es) (λ r a b x y o.
+      sym (ap (λ (z : Bool). pick z (get_or c.spans.now (128 * a + b) 0) (earliest [] a b)) (on (calls c.graph.rows a b) (subst T (sym (rows a b x y)) o)))
+      ∙ ap (λ (l : List Call). pick (calls c.graph.rows a b) (get_or c.spans.now (128 * a + b) 0) (earliest l a b)) (sym e) ∙ L.spans r a b x y);
 }
   where
-    rows : (a b : ℕ) → a < 128 → b < 128 → calls t a b ≡ edge all a b
-    rows a b x y = sym (or-false (calls t a b)) ∙ ap (λ (l : List Call). calls t a b || edge l a b) (sym e) ∙ L.rows a b x y
+    rows : (a b : ℕ) → a < 128 → b < 128 → calls c.graph.rows a b ≡ edge all a b
+    rows a b x y = sym (or-false (calls c.graph.rows a b)) ∙ ap (λ (l : List Call). calls c.graph.rows a b || edge l a b) (sym e) ∙ L.rows a b x y
 
     on : (x : Bool) → T x → x ≡ true
     on true o = refl

@@ -1,24 +1,25 @@
 -- What a field adds to the calls, for any fields.
-use mathlib.Core.Path.{◌≡◌, refl, ap, subst}
+use mathlib.Core.Path.{◌≡◌, refl, ap, ◌∙◌, subst}
 use mathlib.Core.Bool.{Bool, true, false}
 use mathlib.Core.List.{List, [], ◌∷◌, ◌++◌, append_assoc}
-use Prim.Native.Nat.{ℕ, ◌<◌, ◌≤◌}
+use Prim.Native.Nat.{ℕ}
 use native.Mathlib.Decide.{ℕ_discrete}
+use native.Mathlib.Omega.{arith}
 use borrow.Author.Tests.{ne_eqb}
-use lib.ListN.{length, get_or}
+use lib.ListN.{get_or}
 use lib.Dec.{T, eqb}
 use Rattle.rules.specs.Basics.{pick}
-use Rattle.rules.specs.Reading.{load_at}
 use Rattle.rules.specs.Syntax.{Gate, Field, name_f, include_f, reg_f, gate_f, end_f, stmt_f, if_f}
 use Rattle.rules.specs.Grouping.{stmt, stmts, body_of, decls}
 use Rattle.rules.specs.Checking.{number_of}
 use Rattle.rules.specs.Calls.{Call, stmt_calls, stmts_calls, body_calls, decl_calls}
-use Rattle.views.specs.View.{name_in, call_in, u_in, barrier_in, gate_in, if_in, stmt_in, is_plain, field_in, next_in, rest, rest_end}
+use Rattle.views.specs.View.{name_in, call_in, u_in, barrier_in, gate_in, if_in, stmt_in, is_plain, field_in}
 use Rattle.views.specs.Tags.{by_tag}
-use Rattle.views.specs.Steps.{then, gate_at_place, here, body_end, inside_here, gate_here_lem, gates_skip}
-use Rattle.calls.specs.declared.Place.{Place}
-use Rattle.calls.specs.Collecting.{calls_in, Added, Numbered, field_calls, place_after, calls_from, Visited}
-use Rattle.calls.proofs.Adding.{added_none}
+use Rattle.views.specs.Steps.{then, gate_at_place, first_end, first_inside, first_gate, first_not_gate}
+use Rattle.views.specs.Fields.{Passes, Over, left, head, head_opened, none_left}
+use Rattle.views.specs.declared.Field as declared
+use Rattle.views.specs.declared.Fields.{Fields}
+use Rattle.calls.specs.Collecting.{calls_in, calls_from}
 
 -- ---- a body: a CALL counts where it stands, also under IFs
 
@@ -45,23 +46,30 @@ module _ (gs : List Gate) (g : ℕ) (p : List ℕ) (l : List Field) where
       (λ n. governed gs g l)
       (λ t k n. rw (k.plain, k.not22, k.not2, k.not3, k.not4, k.not5, k.not6, ne_eqb t 21 (λ q. subst T (subst (λ (x : ℕ). is_plain x ≡ false) q k.plain) tt)) refl)
 
--- ---- the calls from a place on, after one field
+-- ---- the calls that are left, after one field
 
-module _ (gs : List Gate) (h : Place) (img : List ℕ) (at t next : ℕ) (p : List ℕ) (b : at < length img) (et : t ≡ get_or img at 0) (ep : p ≡ load_at img at) (en : next ≡ next_in img at) where
+module _ (gs : List Gate) (from : ℕ) (s t : Fields) (f : declared.Field) (k : Passes s f t) where
+  abbrev p : List ℕ
+  p = f.payload.now
+
   abbrev l : List Field
-  l = rest img next
+  l = left t
 
   -- in a body
-  body_field : (t ≡ 6 → ⊥) → stmts_calls gs h.from (stmts false (rest img at)) ≡ pick (eqb t 21) (stmt_calls gs h.from (call_in p)) [] ++ stmts_calls gs h.from (stmts false l)
-  body_field n = rw (here img at t next p b et ep en) (begins gs h.from p l t n)
+  body_turn : f.inside ≡ true → (f.tag ≡ 6 → ⊥) → calls_from gs from s ≡ pick (eqb f.tag 21) (stmt_calls gs from (call_in p)) [] ++ calls_from gs from t
+  unfolding calls_from then
+  body_turn i n =
+      rw (head_opened s t f k, head s t f k, ← k.inside, k.body, i, begins gs from p l f.tag n, first_inside f.tag p l, ne_eqb f.tag 6 n)
+      (append_assoc (pick (eqb f.tag 21) (stmt_calls gs from (call_in p)) []) (stmts_calls gs from (stmts false l)) (decl_calls gs (decls true false l)))
 
-  field_inside : h.inside ≡ true → calls_from gs h (rest img at) ≡ field_calls gs h t p ++ calls_from gs (place_after gs h t p) l
-  unfolding calls_from field_calls place_after then stmts_calls
-  field_inside e = elim (ℕ_discrete t 6) [
-    | yes q ↦ rw (e, body_end img at t next p b et ep en q, inside_here img at t next p b et ep en, q) refl
-    | no q ↦
-        rw (e, body_field q, inside_here img at t next p b et ep en, ne_eqb t 6 q)
-        (append_assoc (pick (eqb t 21) (stmt_calls gs h.from (call_in p)) []) (stmts_calls gs h.from (stmts false l)) (decl_calls gs (decls true false l)))
+  pub call_turn : f.inside ≡ true → f.tag ≡ 21 → calls_from gs from s ≡ stmt_calls gs from (call_in p) ++ calls_from gs from t
+  call_turn i e = body_turn i (λ q. absurd (omega (arith, q, e))) ∙ rw e refl
+
+  pub skip_turn : f.inside ≡ true → (f.tag ≡ 21 → ⊥) → calls_from gs from s ≡ calls_from gs from t
+  unfolding calls_from then stmts_calls
+  skip_turn i n = elim (ℕ_discrete f.tag 6) [
+    | yes q ↦ rw (head_opened s t f k, head s t f k, ← k.inside, k.body, i, first_end f.tag p l q, first_inside f.tag p l, q) refl
+    | no q ↦ rw (ne_eqb f.tag 21 n) at body_turn i q
   ]
 
   -- between bodies
@@ -69,59 +77,25 @@ module _ (gs : List Gate) (h : Place) (img : List ℕ) (at t next : ℕ) (p : Li
   body_calls_lem g true = refl
   body_calls_lem g false = refl
 
-  field_outside : h.inside ≡ false → calls_from gs h (rest img at) ≡ field_calls gs h t p ++ calls_from gs (place_after gs h t p) l
-  unfolding calls_from field_calls place_after then decl_calls gate_at_place
-  field_outside e = elim (ℕ_discrete t 5) [
-    | yes q ↦ rw (e, gate_here_lem img at t next p b et ep en q, q) (ap (λ (x : List Call). x ++ decl_calls gs (decls (eqb (get_or p 10 0) 1) false l)) (body_calls_lem (number_of gs (name_in p 8)) (eqb (get_or p 10 0) 1)))
-    | no q ↦
-        rw (e, gates_skip (decl_calls gs) (λ sp x ds. refl) img at t next p b et ep en (λ s ds. refl) (λ c d o ds. refl) q, ne_eqb t 5 q) refl
-  ]
+  pub gate_turn : f.inside ≡ false → f.tag ≡ 5 → (to : ℕ) → to ≡ number_of gs (name_in p 8) → calls_from gs from s ≡ calls_from gs to t
+  unfolding calls_from then decl_calls gate_at_place
+  gate_turn i e to q =
+      rw (head_opened s t f k, head s t f k, ← k.inside, k.body, i, first_gate f.tag p l e, e, q)
+      (ap (λ (x : List Call). x ++ decl_calls gs (decls (eqb (get_or p 10 0) 1) false l)) (body_calls_lem (number_of gs (name_in p 8)) (eqb (get_or p 10 0) 1)))
 
-  pub field_calls_lem : calls_from gs h (rest img at) ≡ field_calls gs h t p ++ calls_from gs (place_after gs h t p) l
-  field_calls_lem = go h.inside refl
-    where
-      go : (i : Bool) → h.inside ≡ i → calls_from gs h (rest img at) ≡ field_calls gs h t p ++ calls_from gs (place_after gs h t p) l
-      go true e = field_inside e
-      go false e = field_outside e
+  pub rest_turn : f.inside ≡ false → (f.tag ≡ 5 → ⊥) → calls_from gs from s ≡ calls_from gs from t
+  unfolding calls_from then decl_calls
+  rest_turn i n =
+      rw (head_opened s t f k, head s t f k, ← k.inside, k.body, i, first_not_gate (decl_calls gs) (λ sp x ds. refl) f.tag p l (λ s ds. refl) (λ c d o ds. refl) n, ne_eqb f.tag 5 n) refl
 
-pub calls_start : (gs : List Gate) (h : Place) (img : List ℕ) → h.inside ≡ false → calls_in gs img ≡ calls_from gs h (rest img 0)
+pub calls_start : (gs : List Gate) (from : ℕ) (s : Fields) → s.inside ≡ false → s.at ≡ 0 → calls_in gs s.img.now ≡ calls_from gs from s
 unfolding calls_in calls_from
-calls_start gs h img e = rw e refl
+calls_start gs from s i e = rw (i, e) refl
 
-pub calls_end : (gs : List Gate) (h : Place) (img : List ℕ) (at : ℕ) → length img ≤ at → calls_from gs h (rest img at) ≡ []
+pub calls_end : (gs : List Gate) (from : ℕ) (s t : Fields) → Over s t → calls_from gs from s ≡ []
 unfolding calls_from stmts_calls stmts decl_calls decls
-calls_end gs h img at e = rw (rest_end img at e) (go h.inside)
+calls_end gs from s t k = rw (none_left s t k) (go s.inside)
   where
     go : (i : Bool) → pick i [] [] ++ decl_calls gs (decls i false []) ≡ []
     go true = refl
     go false = refl
-
--- ---- what a field is taken for
-
-module _ (gates : List ℕ) (n : ℕ) (h : Place) (t : ℕ) (p rows spans : List ℕ) where
-  abbrev Seen : List ℕ → List ℕ → Place → Type 0
-  Seen rows' spans' r = (gs : List Gate) → Numbered gates n gs → Visited gs h t p rows rows' spans spans' r
-
-  module _ (e : h.inside ≡ true) where
-    pub seen_call : t ≡ 21 → (rows' spans' : List ℕ) → ((gs : List Gate) → Numbered gates n gs → Added (stmt_calls gs h.from (call_in p)) rows rows' spans spans') → Seen rows' spans' h
-    unfolding field_calls place_after then
-    seen_call q rows' spans' A gs N = record { added = rw (e, q) (A gs N); place = rw (e, q) refl }
-
-    pub seen_end : t ≡ 6 → length rows ≡ 256 → Seen rows spans (record { inside = false; from = h.from })
-    unfolding field_calls place_after then
-    seen_end q size gs N = record { added = rw (e, q) (added_none rows spans size); place = rw (e, q) refl }
-
-    pub seen_more : (t ≡ 21 → ⊥) → (t ≡ 6 → ⊥) → length rows ≡ 256 → Seen rows spans h
-    unfolding field_calls place_after then
-    seen_more m q size gs N = record { added = rw (e, ne_eqb t 21 m) (added_none rows spans size); place = rw (e, ne_eqb t 6 q) refl }
-
-  module _ (e : h.inside ≡ false) where
-    pub seen_gate : t ≡ 5 → length rows ≡ 256 → (r : Place) → r.inside ≡ eqb (get_or p 10 0) 1 → ((gs : List Gate) → Numbered gates n gs → r.from ≡ number_of gs (name_in p 8)) → Seen rows spans r
-    unfolding field_calls place_after then
-    seen_gate q size r i f gs N = record { added = rw e (added_none rows spans size); place = rw (e, q, ← i, ← f gs N) refl }
-
-    pub seen_none : (t ≡ 5 → ⊥) → length rows ≡ 256 → Seen rows spans h
-    unfolding field_calls place_after then
-    seen_none q size gs N = record { added = rw e (added_none rows spans size); place = rw (e, ne_eqb t 5 q) refl }
-
-pub ruleset seen_laws = (seen_call, seen_end, seen_more, seen_gate, seen_none)

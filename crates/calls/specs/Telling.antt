@@ -6,6 +6,7 @@ use Rattle.rules.specs.Checking.{gate_at}
 use Rattle.rules.specs.Calls.{Call, edge}
 use Rattle.theorems.specs.Words.{Within}
 use Rattle.calls.specs.Collecting.{Has}
+use Rattle.calls.specs.declared.Tables.{Tables}
 
 -- the span of the earliest call of h by g
 unfoldable pub span_by : List ℕ → ℕ → ℕ → ℕ
@@ -21,9 +22,9 @@ pub record Defined (defs : List ℕ) (n : ℕ) (gs : List Gate) : Type 0 where
   pub decl : (i : ℕ) → i < n → get_or defs i 0 ≡ (gate_at gs i).decl
 
 -- the tables are those of the gates gs and the calls cs
-pub record Shown (gs : List Gate) (cs : List Call) (n : ℕ) (rows defs spans : List ℕ) : Type 0 where
-  pub count : n ≡ length gs
-  pub defined : Defined defs n gs
-  pub within : Within n (edge cs)
-  pub has : Has cs rows spans
-  pub room : 16384 ≤ length spans
+pub record Shown (gs : List Gate) (cs : List Call) (t : Tables) : Type 0 where
+  pub count : t.n ≡ length gs
+  pub defined : Defined t.defs.now t.n gs
+  pub within : Within t.n (edge cs)
+  pub has : Has cs t.graph.now.rows t.spans.now
+  pub room : 16384 ≤ length t.spans.now

@@ -1,5 +1,5 @@
 -- From what was counted and written to the answer of 01's table.
-use mathlib.Core.Path.{◌≡◌, refl, sym, ap₂, ◌∙◌}
+use mathlib.Core.Path.{◌≡◌, refl, sym, ap, ap₂, ◌∙◌}
 use mathlib.Core.List.{List, [], ◌++◌, map}
 use mathlib.Core.Bool.{true, false}
 use Prim.Native.Nat.{ℕ, ◌≤◌, ◌<◌}
@@ -8,29 +8,34 @@ use borrow.Author.Tests.{lt-ltb, le-ltb, ne_eqb}
 use lib.ListN.{length, take, drop, length-map}
 use lib.Seq.{take_at}
 use lib.Dec.{ltb, eqb}
-use Rattle.rules.specs.declared.Answer.{Answer}
-use Rattle.rules.specs.declared.Answer.TheVariants.{Done, Errors, Refused, Room}
+use Rattle.rules.specs.declared.Answer.TheVariants.{Done, Errors, Room}
 use Rattle.rules.specs.Errors.{error_field}
 use Rattle.rules.specs.Syntax.{Program}
 use Rattle.rules.specs.Grouping.{program, read}
 use Rattle.rules.specs.Calls.{errors}
-use Rattle.rules.specs.Answers.{flat, lay, check_read, check}
+use Rattle.rules.specs.Answers.{flat, lay, check_read}
 use Rattle.theorems.specs.Bounds.{errors_bytes, errors_count}
 use Rattle.output.specs.Bytes.{most}
-use Rattle.image.specs.declared.Image.{Image}
-use Rattle.image.specs.declared.Verdict.{Verdict}
-use Rattle.image.specs.declared.Verdict.TheVariants as verdict
-use Rattle.image.specs.Whole.{Reads}
-use Rattle.checks.specs.declared.Judged.{Judged}
+use Rattle.output.specs.declared.Sink.{Sink}
+use Rattle.output.specs.declared.Writer.{Writer}
+use Rattle.output.specs.Sinks.{start}
+use Rattle.collect.specs.declared.Gates.{Gates}
 use Rattle.checks.specs.Told.{All}
-use Rattle.checks.specs.Served.{Gives, Serves, served_refused, served_read, nil_of, laid}
+use Rattle.checks.specs.Served.{Serves, nil_of, laid}
 
-module _ (img o none none' : List ℕ) (j : Judged) (w : All img none none' j) (fits : length o ≤ most) where
+-- from nothing, w₀, a writer has counted the errors: j
+module _ (img o : List ℕ) (w₀ j : Writer) (g : Gates) (fresh : w₀.sink ≡ start) (w : All img w₀ j g) (fits : length o ≤ most) where
+  fresh_items : w₀.sink.items ≡ 0
+  fresh_items = ap (λ (s : Sink). s.items) fresh
+
+  fresh_bytes : w₀.sink.bytes ≡ 0
+  fresh_bytes = ap (λ (s : Sink). s.bytes) fresh
+
   items_are : (p : Program) → read img ≡ program p → j.sink.items ≡ length (errors p)
-  items_are p e = omega (arith, (w.said p e).count, errors_count img p e)
+  items_are p e = omega (arith, (w.said p e).put.count, fresh_items, errors_count img p e)
 
   bytes_are : (p : Program) → read img ≡ program p → j.sink.bytes ≡ length (flat (map error_field (errors p)))
-  bytes_are p e = omega (arith, (w.said p e).wrote.place, errors_bytes img p e)
+  bytes_are p e = omega (arith, (w.said p e).put.wrote.place, fresh_bytes, errors_bytes img p e)
 
   fields_are : (p : Program) → length (map error_field (errors p)) ≡ length (errors p)
   fields_are p = length-map (errors p) error_field
@@ -63,37 +68,28 @@ module _ (img o none none' : List ℕ) (j : Judged) (w : All img none none' j) (
     -- some errors, whose bytes lie over the front of the buffer
     some : (j.sink.items ≡ 0 → ⊥) → (o' : List ℕ)
         → ((p : Program) → read img ≡ program p → o' ≡ flat (map error_field (errors p)) ++ drop (length (flat (map error_field (errors p)))) o)
-        → (a : Answer) → a ≡ Errors j.sink.items j.sink.bytes → Serves check_read img o o' a
+        → Serves check_read img o o' (Errors j.sink.items j.sink.bytes)
     unfolding check_read lay
-    some z o' over a ea = rw ea (record {
+    some z o' over = record {
       gives = λ p e.
           let m : eqb (length (map error_field (errors p))) 0 ≡ false = ne_eqb _ 0 (λ q. z (items_are p e ∙ sym (fields_are p) ∙ q)) in
           record {
             answer = rw (long p e, m) (ap₂ Errors (items_are p e ∙ sym (fields_are p)) (bytes_are p e));
             buffer = rw (long p e) (over p e);
           };
-    })
+    }
 
-    pub some_listed : (j.sink.items ≡ 0 → ⊥) → (o' : List ℕ) (k : Judged) → All img o o' k → (a : Answer) → a ≡ Errors j.sink.items j.sink.bytes → Serves check_read img o o' a
-    some_listed z o' k v =
-        some z o' (λ p e. (v.said p e).wrote.buffer fits ∙ laid o (flat (map error_field (errors p))) (rw (bytes_are p e) at h))
+    pub some_listed : (j.sink.items ≡ 0 → ⊥) → (v₀ v : Writer) (f : Gates) → v₀.out.now ≡ o → v₀.sink ≡ start → All img v₀ v f → (o' : List ℕ) → o' ≡ v.out.now
+        → Serves check_read img o o' (Errors j.sink.items j.sink.bytes)
+    some_listed z v₀ v f eo es a o' e =
+        some z o' (λ p q.
+        let t = (a.said p q).put.wrote.buffer (rw eo fits) in
+        e ∙ t ∙ rw (eo, es) (laid o (flat (map error_field (errors p))) (rw (bytes_are p q) at h)))
 
     -- from where they were held, if all of them fit there
-    pub some_held : (j.sink.items ≡ 0 → ⊥) → (m : ℕ) → length none ≡ m → m ≤ most → j.sink.bytes ≤ m → (o' : List ℕ)
-        → o' ≡ take j.sink.bytes none' ++ drop j.sink.bytes o → (a : Answer) → a ≡ Errors j.sink.items j.sink.bytes → Serves check_read img o o' a
-    some_held z m em f k o' x = some z o' (λ p e.
+    pub some_held : (j.sink.items ≡ 0 → ⊥) → (m : ℕ) → length w₀.out.now ≡ m → m ≤ most → j.sink.bytes ≤ m → (c : List ℕ)
+        → c ≡ take j.sink.bytes j.out.now → Serves check_read img o (c ++ drop j.sink.bytes o) (Errors j.sink.items j.sink.bytes)
+    some_held z m em f k c x = some z (c ++ drop j.sink.bytes o) (λ p e.
         let bs = flat (map error_field (errors p)) in
-        let held : none' ≡ bs ++ drop (length bs) none = (w.said p e).wrote.buffer (omega arith) ∙ laid none bs (rw em (rw (bytes_are p e) at k)) in
-        x ∙ rw (bytes_are p e, held, take_at bs (drop (length bs) none) (length bs) refl) refl)
-
--- ---- the whole service
-
-pub check_refused : (img o : List ℕ) (i : Image) → Reads img i → (v : Verdict) → v ≡ i.verdict → (k at : ℕ) → v ≡ verdict.Refused k at → Gives (check img o) o (Refused k at)
-unfolding check check_read
-check_refused img o i r v ev = served_refused check_read img o i r v ev (λ k at. refl)
-
-pub check_done : (img o : List ℕ) (i : Image) → Reads img i → (v : Verdict) → v ≡ i.verdict → v ≡ verdict.Read → (o' : List ℕ) (a : Answer) → Serves check_read img o o' a → Gives (check img o) o' a
-unfolding check
-check_done img o i r v ev = served_read check_read img o i r v ev
-
-pub ruleset check_laws = (check_refused, check_done)
+        let held : j.out.now ≡ bs ++ drop (length bs) w₀.out.now = (w.said p e).put.wrote.buffer (omega arith) ∙ rw fresh (laid w₀.out.now bs (rw em (rw (bytes_are p e) at k))) in
+        rw (x, bytes_are p e, held, take_at bs (drop (length bs) w₀.out.now) (length bs) refl) refl)

@@ -1,132 +1,100 @@
--- Repeated names and registers declared again: what each way out and each turn gives.
+-- Repeated names: what the searches and the loops give.
+use Rattle.std.specs.Prelude.{Option, Some}
 use mathlib.Core.Path.{◌≡◌, refl, sym, ap, ◌∙◌}
 use mathlib.Core.List.{List, [], ◌∷◌, ◌++◌, map, map-append}
-use mathlib.Core.Bool.{Bool, true, false}
-use Prim.Native.Nat.{ℕ, zero, suc, ◌+◌, ◌-◌, ◌*◌, ◌<◌, ◌≤◌}
+use Prim.Native.Nat.{ℕ, zero, suc, ◌+◌, ◌<◌, ◌≤◌}
 use native.Mathlib.Omega.{arith}
-use native.Mathlib.Nat.{mul-suc}
 use native.Mathlib.Numerals.{add-one}
 use borrow.Author.Tests.{eq-eqb, ne_eqb}
 use lib.Dec.{eqb}
+use lib.ListN.{length, take, drop}
+use Rattle.rules.specs.declared.Named.{Named}
 use Rattle.rules.specs.declared.Operand.{Operand}
 use Rattle.rules.specs.declared.Reg.{Reg}
-use Rattle.rules.specs.declared.Found.{Found}
-use Rattle.rules.specs.declared.Found.TheVariants.{Row, Nothing}
 use Rattle.rules.specs.Basics.{pick}
-use Rattle.rules.specs.Errors.{Error, error_field, zero_size_register, redefined_register}
-use Rattle.rules.specs.Items.{le4}
-use Rattle.rules.specs.Syntax.{Named}
+use Rattle.rules.specs.Errors.{Error, error_field, zero_size_register}
 use Rattle.rules.specs.Checking.{argument, later, latest, repeated, repeats, size_of, redeclared}
-use Rattle.views.specs.View.{name_in, named_in, row_in}
-use Rattle.output.specs.declared.Sink.{Sink}
-use Rattle.output.specs.Sinks.{Said, put_none, put_then}
-use Rattle.collect.specs.Collected.{named_kind, reg_errors_by, kind_of}
+use Rattle.views.specs.declared.Row.{Row}
+use Rattle.views.specs.View.{named_in, row_in}
+use Rattle.views.specs.Rows.{named_ends, row_length, row_take}
+use Rattle.views.specs.Items.{names_left}
+use Rattle.output.specs.declared.Writer.{Writer}
+use Rattle.output.specs.Writers.{Says, puts_then}
+use Rattle.tables.specs.Later.{later_more}
+use Rattle.collect.specs.Collected.{reg_errors_by}
+
+-- a search that goes on, where l is left and f is the latest that was met
+module _ (a f : Option Reg) (l rest : List Named) (n : Named) (x : ℕ) (h : a ≡ later (latest (map argument l) x) f) (e : l ≡ n ∷ rest) where
+  met : a ≡ later (latest (map argument rest) x) (pick (eqb n.name x) (Some (argument n)) f)
+  unfolding latest
+  met = h ∙ (rw e (later_more (latest (map argument rest) x) (eqb n.name x) (argument n) f))
+
+  pub met_hit : n.name ≡ x → a ≡ later (latest (map argument rest) x) (Some (argument n))
+  met_hit q = met ∙ (rw (eq-eqb n.name x q) refl)
+
+  pub met_miss : (n.name ≡ x → ⊥) → a ≡ later (latest (map argument rest) x) f
+  met_miss q = met ∙ (rw (ne_eqb n.name x q) refl)
+
+pub met_all : (a f : Option Reg) (l : List Named) (x : ℕ) → a ≡ later (latest (map argument l) x) f → l ≡ [] → f ≡ a
+unfolding latest
+met_all a f l x h e = sym (h ∙ (rw e refl))
 
 -- ---- registers
 
-pub kind_two : (t : ℕ) → t ≡ 4 → ◌≡◌ {A = ℕ} 2 (kind_of (eqb t 4))
-kind_two t e = rw e refl
+-- 5 for size 0, then 6
+module _ (f g : Option Reg) (eg : f ≡ g) (o : Operand) (decl n : ℕ) (e : n ≡ size_of o) (w w₁ w₂ : Writer) (again : Says w₁ (redeclared f o decl) w₂) where
+  pub zero_told : n ≡ 0 → Says w (zero_size_register o.span decl ∷ []) w₁ → Says w (reg_errors_by g decl o) w₂
+  zero_told z h = rw (← eg, eq-eqb (size_of o) 0 (sym e ∙ z)) (puts_then error_field h again)
 
-pub kind_one : (t : ℕ) → (t ≡ 4 → ⊥) → ◌≡◌ {A = ℕ} 1 (kind_of (eqb t 4))
-kind_one t e = rw (ne_eqb t 4 e) refl
+  pub some_told : (n ≡ 0 → ⊥) → w₁ ≡ w → Says w (reg_errors_by g decl o) w₂
+  some_told z q = rw (← eg, ne_eqb (size_of o) 0 (λ q. z (e ∙ q)), ← q) again
 
-module _ (f : Found) (b : List ℕ) (s : Sink) where
-  pub again_none : f ≡ Nothing → (o : Operand) (decl : ℕ) → Said b s (redeclared f o decl) b s
-  again_none e o decl = rw e (put_none error_field b s)
+-- ---- the repeated names of a row
 
-  pub again_row : (r : Reg) → f ≡ Row r → (o : Operand) (decl : ℕ) (b' : List ℕ) (s' : Sink) → Said b s (redefined_register o decl r.span ∷ []) b' s' → Said b s (redeclared f o decl) b' s'
-  again_row r e o decl b' s' w = rw e w
+after_drop : (l : List Named) (k : ℕ) (n : Named) (r : List Named) → drop k l ≡ n ∷ r → (k < length l) × (take (suc k) l ≡ take k l ++ (n ∷ [])) × (drop (suc k) l ≡ r)
+after_drop [] zero n r e = absurd (let z : length {A = Named} [] ≡ length (n ∷ r) = ap length e in omega arith)
+after_drop [] (suc k) n r e = absurd (let z : length {A = Named} [] ≡ length (n ∷ r) = ap length e in omega arith)
+after_drop (m ∷ l) zero n r e = (omega arith, ap (λ x. take 1 x) e, ap (λ x. drop 1 x) e)
+after_drop (m ∷ l) (suc k) n r e = let q = after_drop l k n r e in (omega (arith, q.0), ap (λ x. m ∷ x) q.1, q.2)
 
-  pub repeat_none : f ≡ Nothing → (k : Bool) (decl : ℕ) (a : Named) → Said b s (repeated (named_kind k) decl f a) b s
-  repeat_none e k decl a = rw e (put_none error_field b s)
+-- `seen` are the names of a row before a place, and l are those behind it
+pub record Stands (row seen : Row Named) (l : List Named) : Type 0 where
+  pub bytes : seen.bytes ≡ row.bytes
+  pub at : seen.at ≡ row.at
+  pub few : seen.left ≤ row.left
+  pub behind : drop seen.left (names_left row) ≡ l
 
-  pub repeat_row : (r : Reg) → f ≡ Row r → (k c : Bool) → k ≡ c → (decl : ℕ) (a : Named) (b' : List ℕ) (s' : Sink) → Said b s (named_kind c a.span a.name decl r.span ∷ []) b' s'
-      → Said b s (repeated (named_kind k) decl f a) b' s'
-  repeat_row r e k c q decl a b' s' w = rw (e, q) w
+module _ (row seen : Row Named) (l : List Named) (s : Stands row seen l) (n : Named) (r : List Named) (e : l ≡ n ∷ r) where
+  there : (seen.left < row.left) × (take (suc seen.left) (names_left row) ≡ take seen.left (names_left row) ++ (n ∷ [])) × (drop (suc seen.left) (names_left row) ≡ r)
+  there = let q = after_drop (names_left row) seen.left n r (s.behind ∙ e) in (rw (row_length named_in 6 named_ends row.left row.bytes.now row.at) at (q.0), q.1, q.2)
 
-module _ (f g : Found) (eg : f ≡ g) (o : Operand) (decl n : ℕ) (e : n ≡ size_of o) (b : List ℕ) (s : Sink) where
-  pub register_zero : n ≡ 0 → (b₁ : List ℕ) (s₁ : Sink) → Said b s (zero_size_register o.span decl ∷ []) b₁ s₁ → (b₂ : List ℕ) (s₂ : Sink) → Said b₁ s₁ (redeclared f o decl) b₂ s₂
-      → Said b s (reg_errors_by g decl o) b₂ s₂
-  register_zero z b₁ s₁ v b₂ s₂ w = rw (← eg, eq-eqb (size_of o) 0 (sym e ∙ z)) (put_then error_field v w)
+  pub stands_fits : seen.left < row.left
+  stands_fits = there.0
 
-  pub register_some : (n ≡ 0 → ⊥) → (b' : List ℕ) (s' : Sink) → Said b s (redeclared f o decl) b' s' → Said b s (reg_errors_by g decl o) b' s'
-  register_some z b' s' w = rw (← eg, ne_eqb (size_of o) 0 (λ q. z (e ∙ q))) w
+  abbrev pub seen' : Row Named
+  seen' = record { bytes = seen.bytes; at = seen.at; left = seen.left + 1; item = seen.item }
 
-pub ruleset register_laws = (register_zero, register_some)
+  pub stands_next : Stands row seen' r
+  stands_next = record { bytes = s.bytes; at = s.at; few = omega (arith, there.0); behind = rw (add-one seen.left) (there.2) }
 
-pub ruleset repeat_laws = (repeat_none, repeat_row)
+  seen_next : names_left seen' ≡ names_left seen ++ (n ∷ [])
+  seen_next = rw (s.bytes, s.at, add-one seen.left, row_take named_in 6 named_ends (suc seen.left) row.left row.bytes.now row.at (omega (arith, there.0)), row_take named_in 6 named_ends seen.left row.left row.bytes.now row.at s.few) (there.1)
 
--- ---- names in a row
+  pub repeats_next : (kind : ℕ → ℕ → ℕ → ℕ → Error) (decl : ℕ) → repeats kind decl (map argument (names_left seen)) l ≡ repeated kind decl (latest (map argument (names_left seen)) n.name) n ++ repeats kind decl (map argument (names_left seen')) r
+  unfolding repeats
+  repeats_next kind decl = rw (e, seen_next, map-append argument (names_left seen) (n ∷ [])) refl
 
--- one name more at the end
-pub latest_snoc : (rs : List Reg) (r : Reg) (x : ℕ) → latest (rs ++ (r ∷ [])) x ≡ pick (eqb r.name x) (Row r) (latest rs x)
-unfolding latest
-latest_snoc [] r x = go (eqb r.name x)
-  where
-    go : (c : Bool) → later Nothing (pick c (Row r) Nothing) ≡ pick c (Row r) Nothing
-    go true = refl
-    go false = refl
-latest_snoc (q ∷ rs) r x = rw (latest_snoc rs r x) (go (eqb r.name x))
-  where
-    go : (c : Bool) → later (pick c (Row r) (latest rs x)) (pick (eqb q.name x) (Row q) Nothing) ≡ pick c (Row r) (later (latest rs x) (pick (eqb q.name x) (Row q) Nothing))
-    go true = refl
-    go false = refl
+module _ (row : Row Named) where
+  abbrev none : Row Named
+  none = record { bytes = row.bytes; at = row.at; left = 0; item = row.item }
 
-row_snoc : (k : ℕ) (p : List ℕ) (at : ℕ) → row_in named_in 6 (suc k) p at ≡ row_in named_in 6 k p at ++ (named_in p (at + 6 * k) ∷ [])
-unfolding row_in
-row_snoc zero p at = let e : at ≡ at + 6 * 0 = omega arith in ap (λ (n : ℕ). named_in p n ∷ []) e
-row_snoc (suc k) p at =
-    let e : at + 6 + 6 * k ≡ at + 6 * suc k = omega (arith, mul-suc 6 k) in
-    ap (λ l. named_in p at ∷ l) (row_snoc k p (at + 6) ∙ ap (λ (n : ℕ). row_in named_in 6 k p (at + 6) ++ (named_in p n ∷ [])) e)
+  pub stands_start : Stands row none (names_left row)
+  stands_start = record { bytes = refl; at = refl; few = omega arith; behind = refl }
 
-seen_snoc : (k : ℕ) (p : List ℕ) (at : ℕ) → map argument (row_in named_in 6 (suc k) p at) ≡ map argument (row_in named_in 6 k p at) ++ (argument (named_in p (at + 6 * k)) ∷ [])
-seen_snoc k p at = ap (map argument) (row_snoc k p at) ∙ map-append argument (row_in named_in 6 k p at) (named_in p (at + 6 * k) ∷ [])
+  pub repeats_start : (kind : ℕ → ℕ → ℕ → ℕ → Error) (decl : ℕ) → repeats kind decl [] (names_left row) ≡ repeats kind decl (map argument (names_left none)) (names_left row)
+  unfolding row_in
+  repeats_start kind decl = refl
 
--- a search from the end, at the name before i
-module _ (p : List ℕ) (from x i : ℕ) (h : 0 < i) (at : ℕ) (ea : at ≡ from + 6 * (i - 1)) (nm : ℕ) (en : (nm ≡ name_in p (at + 4)) × (nm < 512)) where
-  back : latest (map argument (row_in named_in 6 i p from)) x ≡ pick (eqb nm x) (Row (argument (named_in p at))) (latest (map argument (row_in named_in 6 (i - 1) p from)) x)
-  unfolding named_in
-  back =
-      let e : i ≡ suc (i - 1) = omega arith in
-      ap (λ (n : ℕ). latest (map argument (row_in named_in 6 n p from)) x) e
-      ∙ ap (λ l. latest l x) (seen_snoc (i - 1) p from)
-      ∙ latest_snoc (map argument (row_in named_in 6 (i - 1) p from)) (argument (named_in p (from + 6 * (i - 1)))) x
-      ∙ (rw (← ea, en.0) refl)
-
-  pub back_hit : nm ≡ x → (sp : ℕ) → (sp ≡ le4 p at) × (sp < 4294967296) → (f : Found) → latest (map argument (row_in named_in 6 i p from)) x ≡ f
-      → Row (record { name = x; span = sp; classical = false; size = 1 }) ≡ f
-  unfolding named_in
-  back_hit q sp es f so =
-      let a : Row (record { name = x; span = sp; classical = false; size = 1 }) ≡ Row (argument (named_in p at)) = rw (← q, en.0, es.0) refl in
-      a ∙ sym (sym so ∙ back ∙ (rw (eq-eqb nm x q) refl))
-
-  pub back_miss : (nm ≡ x → ⊥) → (f : Found) → latest (map argument (row_in named_in 6 i p from)) x ≡ f → latest (map argument (row_in named_in 6 (i - 1) p from)) x ≡ f
-  back_miss q f so = sym (back ∙ (rw (ne_eqb nm x q) refl)) ∙ so
-
-pub back_end : (p : List ℕ) (from x i : ℕ) → i ≤ 0 → (f : Found) → latest (map argument (row_in named_in 6 i p from)) x ≡ f → Nothing ≡ f
-unfolding latest row_in
-back_end p from x i h f so = let e : 0 ≡ i = omega arith in ap (λ (n : ℕ). latest (map argument (row_in named_in 6 n p from)) x) e ∙ so
-
--- ---- the repeated names of a row, at its i-th
-
-module _ (k : Bool) (decl n : ℕ) (p : List ℕ) (from i : ℕ) where
-  unfoldable pub left_repeats : List Error
-  left_repeats = repeats (named_kind k) decl (map argument (row_in named_in 6 i p from)) (row_in named_in 6 (n - i) p (from + 6 * i))
-
-  pub repeats_end : n ≤ i → left_repeats ≡ []
-  unfolding left_repeats repeats row_in
-  repeats_end h = let e : n - i ≡ 0 = omega arith in rw e refl
-
-pub repeats_start : (k : Bool) (decl n : ℕ) (p : List ℕ) (from : ℕ) → left_repeats k decl n p from 0 ≡ repeats (named_kind k) decl [] (row_in named_in 6 n p from)
-unfolding left_repeats row_in
-repeats_start k decl n p from = let e : from + 6 * 0 ≡ from = omega arith in let d : n - 0 ≡ n = omega arith in rw (d, e) refl
-
-pub repeats_more : (k : Bool) (decl n : ℕ) (p : List ℕ) (from i : ℕ) → i < n → (at : ℕ) → at ≡ from + 6 * i → (x : ℕ) → (x ≡ name_in p (at + 4)) × (x < 512) → (sp : ℕ) → (sp ≡ le4 p at) × (sp < 4294967296)
-    → (f : Found) → f ≡ latest (map argument (row_in named_in 6 i p from)) x
-    → left_repeats k decl n p from i ≡ repeated (named_kind k) decl f (record { span = sp; name = x }) ++ left_repeats k decl n p from (i + 1)
-unfolding left_repeats repeats row_in named_in
-repeats_more k decl n p from i h at ea x ex sp es f ef =
-    let e : n - i ≡ suc (n - (i + 1)) = omega arith in
-    let d : from + 6 * i + 6 ≡ from + 6 * (i + 1) = omega arith in
-    rw (e, ← ea, ← es.0, ← ex.0, ← ef, add-one i, seen_snoc i p from)
-    (rw (← ea, ← es.0, ← ex.0) (ap (λ (m : ℕ). repeated (named_kind k) decl f (record { span = sp; name = x }) ++ repeats (named_kind k) decl (map argument (row_in named_in 6 i p from) ++ (argument (record { span = sp; name = x }) ∷ [])) (row_in named_in 6 (n - suc i) p m)) (ap (λ (z : ℕ). z + 6) ea ∙ d ∙ ap (λ (z : ℕ). from + 6 * z) (add-one i))))
+pub repeats_end : (seen : List Reg) (l : List Named) (kind : ℕ → ℕ → ℕ → ℕ → Error) (decl : ℕ) → l ≡ [] → repeats kind decl seen l ≡ []
+unfolding repeats
+repeats_end seen l kind decl e = rw e refl

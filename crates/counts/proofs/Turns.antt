@@ -1,8 +1,8 @@
 -- What a turn over a row of operands gives, and a turn over a list of gates.
-use mathlib.Core.Path.{◌≡◌, refl, sym, ◌∙◌}
+use mathlib.Core.Path.{◌≡◌, refl, sym}
 use mathlib.Core.List.{List, [], ◌∷◌, map}
 use mathlib.Core.Bool.{Bool, true, false}
-use Prim.Native.Nat.{ℕ, ◌+◌, ◌-◌, ◌<◌, ◌≤◌, min}
+use Prim.Native.Nat.{ℕ, ◌+◌, ◌<◌, ◌≤◌, min}
 use native.Mathlib.Omega.{arith}
 use native.Mathlib.Numerals.{add-one}
 use borrow.Author.Tests.{eqb-true}
@@ -14,8 +14,6 @@ use Rattle.rules.specs.Basics.{pick}
 use Rattle.rules.specs.Checking.{quantum}
 use Rattle.rules.specs.Run.{common}
 use Rattle.theorems.specs.Count.{sum, at}
-use Rattle.views.specs.View.{on, operand_in, row_in}
-use Rattle.views.specs.Rows.{row_more, row_none, operand_ends}
 use Rattle.asserts.specs.Sizes.{asked}
 use Rattle.counts.specs.Sums.{size_in, sizes_in, gate_sum, sum_fill}
 
@@ -26,43 +24,36 @@ capped_turn n f c n' x y a h ec en ex = omega arith
 pub capped_end : (n x a : ℕ) → n ≤ 4097 → min 4097 (n + x) ≡ min 4097 a → x ≡ 0 → n ≡ min 4097 a
 capped_end n x a l h e = omega arith
 
-module _ (regs : List ℕ) (k : ℕ) (p : List ℕ) (at : ℕ) where
-  abbrev pub row : List ℕ
-  row = sizes_in regs (map quantum (row_in operand_in 15 k p at))
+-- the sizes of operands, all quantum
+abbrev pub widths : (regs : List ℕ) → List Operand → List ℕ
+widths regs os = sizes_in regs (map quantum os)
 
-  pub row_over : k ≤ 0 → row ≡ []
-  unfolding sizes_in
-  row_over h = rw (row_none operand_in 15 operand_ends k p at h) refl
+pub common_over : (regs : List ℕ) (c : ℕ) → pick (eqb c 1) (common (widths regs [])) c ≡ c
+unfolding common sizes_in
+common_over regs c = go (eqb c 1) refl
+  where
+    go : (b : Bool) → eqb c 1 ≡ b → pick b 1 c ≡ c
+    go true e = sym (eqb-true c 1 e)
+    go false e = refl
 
-  pub common_over : (c : ℕ) → k ≤ 0 → pick (eqb c 1) (common row) c ≡ c
-  unfolding common
-  common_over c h = rw (row_over h) (go (eqb c 1) refl)
+pub sum_over : (regs : List ℕ) → sum (widths regs []) ≡ 0
+unfolding sum sizes_in
+sum_over regs = refl
+
+module _ (regs : List ℕ) (o : Operand) (os : List Operand) where
+  pub common_turn : (c : ℕ) → pick (eqb (pick (eqb c 1) (size_in regs (asked false o)) c) 1) (common (widths regs os)) (pick (eqb c 1) (size_in regs (asked false o)) c)
+      ≡ pick (eqb c 1) (common (widths regs (o ∷ os))) c
+  unfolding common sizes_in
+  common_turn c = go (eqb c 1) refl
     where
-      go : (b : Bool) → eqb c 1 ≡ b → pick b 1 c ≡ c
-      go true e = sym (eqb-true c 1 e)
-      go false e = refl
-
-  pub sum_over : k ≤ 0 → sum row ≡ 0
-  unfolding sum
-  sum_over h = rw (row_over h) refl
-
-module _ (regs : List ℕ) (k : ℕ) (p : List ℕ) (at : ℕ) (h : 0 < k) (o : Operand) (e : o ≡ operand_in p at) (n : ℕ) (en : n ≡ size_in regs (asked false o)) (next : ℕ) (ex : next ≡ on p at 15) where
-  row_turn : row regs k p at ≡ n ∷ row regs (k - 1) p next
-  unfolding sizes_in
-  row_turn = rw (row_more operand_in 15 operand_ends k p at h, en, e, ex) refl
-
-  pub common_turn : (c d all : ℕ) → pick (eqb c 1) (common (row regs k p at)) c ≡ all → d ≡ pick (eqb c 1) n c → pick (eqb d 1) (common (row regs (k - 1) p next)) d ≡ all
-  unfolding common
-  common_turn c d all q ed = rw ed (go (eqb c 1) refl ∙ (rw row_turn at q))
-    where
-      go : (b : Bool) → eqb c 1 ≡ b → pick (eqb (pick b n c) 1) (common (row regs (k - 1) p next)) (pick b n c)
-          ≡ pick b (pick (eqb n 1) (common (row regs (k - 1) p next)) n) c
+      go : (b : Bool) → eqb c 1 ≡ b → pick (eqb (pick b (size_in regs (asked false o)) c) 1) (common (widths regs os)) (pick b (size_in regs (asked false o)) c)
+          ≡ pick b (common (widths regs (o ∷ os))) c
       go true f = refl
       go false f = rw f refl
 
-  pub sum_turn : sum (row regs k p at) ≡ n + sum (row regs (k - 1) p next)
-  unfolding sum
-  sum_turn = rw row_turn refl
+  pub sum_turn : sum (widths regs (o ∷ os)) ≡ size_in regs (asked false o) + sum (widths regs os)
+  unfolding sum sizes_in
+  sum_turn = refl
 
 -- a count that goes on by a number that is no sum
 pub plain_turn : (n c n' x y a : ℕ) → min 4097 (n + x) ≡ min 4097 a → n' ≡ min 4097 (n + c) → x ≡ c + y → min 4097 (n' + y) ≡ min 4097 a

@@ -1,6 +1,8 @@
 -- What a turn of each walk over an image gives.
+use Rattle.std.specs.Prelude.{Option, Some, None}
 use mathlib.Core.Path.{◌≡◌, refl, sym, ap, ◌∙◌, subst}
 use mathlib.Core.List.{List, [], ◌∷◌, ◌++◌, append_assoc, append-nil}
+use mathlib.Core.Logic.{◌⊎◌, ⊎_elim}
 use mathlib.Core.Bool.{Bool, true, false}
 use Prim.Native.Nat.{ℕ, ◌+◌, ◌<◌, ◌≤◌}
 use native.Mathlib.Omega.{arith}
@@ -10,19 +12,20 @@ use lib.Dec.{T, eqb, leb}
 use lib.ListN.{length, get_or, set, length-append, length-set, get_or-append}
 use lib.Seq.{get_or-set_same, get_or-set_other, get_or-append_seam}
 use Rattle.rules.specs.declared.Reg.{Reg}
-use Rattle.rules.specs.declared.Found.{Found}
 use Rattle.rules.specs.Basics.{pick}
-use Rattle.rules.specs.Reading.{is_stmt, load_at}
+use Rattle.rules.specs.Reading.{is_stmt}
 use Rattle.rules.specs.Syntax.{Gate, Decl, Field, name_f, include_f, reg_f, gate_f, end_f, stmt_f, if_f}
 use Rattle.rules.specs.Grouping.{stmt, stmts, decls}
 use Rattle.rules.specs.Checking.{no_gate, gate_at, registers}
 use Rattle.rules.specs.Run.{bits_of, tops}
-use Rattle.views.specs.View.{stmt_in, is_plain, next_in, rest, rest_end}
-use Rattle.views.specs.Steps.{after, then, decls_after, stmts_after, gate_at_place, plain_stmt, if_stmt, top_here, stmt_here, body_end, body_skip, inside_here, gate_here_lem, reg_here_lem, other_here, gates_skip, regs_skip}
-use Rattle.counts.specs.declared.Ends.{Ends}
+use Rattle.views.specs.View.{stmt_in, is_plain, field_in, rest}
+use Rattle.views.specs.declared.Field as here
+use Rattle.views.specs.declared.Fields.{Fields}
+use Rattle.views.specs.Fields.{Passes, left, opened, head_opened}
+use Rattle.views.specs.Steps.{after, then, decls_after, stmts_after, gate_at_place, first_plain, first_if, first_top, first_stmt, first_end, first_skip, first_inside, first_gate, first_reg, first_other, first_not_gate, first_not_reg}
 use Rattle.counts.specs.Sums.{stmt_sum, stmts_sum, field_sum}
-use Rattle.counts.specs.Starts.{reg_here, rows_of, start_fill, Enters}
-use Rattle.counts.specs.Places.{gate_here, gate_there, gate_list, Placed}
+use Rattle.counts.specs.Starts.{reg_here, rows_of, start_fill}
+use Rattle.counts.specs.Places.{gate_here, gate_list, Placed}
 
 -- ---- entries
 
@@ -64,56 +67,59 @@ module _ (gates regs : List ℕ) (t : ℕ → ℕ) where
   top_flat (stmt_f s ∷ l) = refl
   top_flat (if_f sp o vs v ∷ l) = rw (decls_after l) refl
 
-  module _ (img : List ℕ) (at : ℕ) (h : at < length img) (tag : ℕ) (et : (tag ≡ get_or img at 0) × (tag < 256)) (p : List ℕ) (ep : p ≡ load_at img at) (next : ℕ) (en : next ≡ next_in img at) where
-    pub body_turn : (tag ≡ 6 → ⊥) → body_sum (rest img at) ≡ field_sum gates regs t tag p + body_sum (rest img next)
+  module _ (tag : ℕ) (p : List ℕ) (l : List Field) where
+    pub body_turn : (tag ≡ 6 → ⊥) → body_sum (field_in tag p ∷ l) ≡ field_sum gates regs t tag p + body_sum l
     unfolding field_sum stmt_sum stmts_sum
     body_turn n = elim (ℕ_discrete tag 22) [
       | yes e ↦
-          let q = if_stmt img at tag next p h et.0 ep en e in
-          rw (stmt_here img at tag next p h et.0 ep en (rw e refl), q.0, q.1, eq-eqb tag 22 e) (omega (arith, body_flat (rest img next)))
+          let q = first_if tag p l e in
+          rw (first_stmt tag p l (rw e refl), q.0, q.1, eq-eqb tag 22 e) (omega (arith, body_flat l))
       | no e ↦ rw (ne_eqb tag 22 e) (go (is_stmt tag) refl e)
     ]
       where
-        go : (b : Bool) → is_stmt tag ≡ b → (tag ≡ 22 → ⊥) → body_sum (rest img at) ≡ pick b (stmt_sum gates regs t (stmt_in tag p)) 0 + body_sum (rest img next)
+        go : (b : Bool) → is_stmt tag ≡ b → (tag ≡ 22 → ⊥) → body_sum (field_in tag p ∷ l) ≡ pick b (stmt_sum gates regs t (stmt_in tag p)) 0 + body_sum l
         go true f e =
-            let q = plain_stmt img at tag next p h et.0 ep en (stmt_plain tag f e) in
-            rw (stmt_here img at tag next p h et.0 ep en f, q.0, q.1) refl
-        go false f e = rw (body_skip img at tag next p h et.0 ep en f n) (omega arith)
+            let q = first_plain tag p l (stmt_plain tag f e) in
+            rw (first_stmt tag p l f, q.0, q.1) refl
+        go false f e = rw (first_skip tag p l f n) (omega arith)
 
-    pub body_over : tag ≡ 6 → body_sum (rest img at) ≡ 0
+    pub body_over : tag ≡ 6 → body_sum (field_in tag p ∷ l) ≡ 0
     unfolding stmts_sum
-    body_over e = rw (body_end img at tag next p h et.0 ep en e) refl
+    body_over e = rw (first_end tag p l e) refl
 
-    top_step : (i : Bool) → top_sum i (rest img at) ≡ pick i 0 (field_sum gates regs t tag p) + top_sum (then i tag p) (rest img next)
+    pub top_turn : (i : Bool) → top_sum i (field_in tag p ∷ l) ≡ pick i 0 (field_sum gates regs t tag p) + top_sum (then i tag p) l
     unfolding field_sum stmt_sum stmts_sum tops then
-    top_step true = ap (λ (l : List Decl). stmts_sum gates regs t (tops l)) (inside_here img at tag next p h et.0 ep en) ∙ (omega arith)
-    top_step false = elim (ℕ_discrete tag 22) [
+    top_turn true = ap (λ (ds : List Decl). stmts_sum gates regs t (tops ds)) (first_inside tag p l) ∙ (omega arith)
+    top_turn false = elim (ℕ_discrete tag 22) [
       | yes e ↦
-          let q = if_stmt img at tag next p h et.0 ep en e in
-          rw (top_here img at tag next p h et.0 ep en (rw e refl), q.0, q.1, e) (omega (arith, top_flat (rest img next)))
+          let q = first_if tag p l e in
+          rw (first_top tag p l (rw e refl), q.0, q.1, e) (omega (arith, top_flat l))
       | no e ↦ rw (ne_eqb tag 22 e) (go (is_stmt tag) refl e)
     ]
       where
         go : (b : Bool) → is_stmt tag ≡ b → (tag ≡ 22 → ⊥)
-            → top_sum false (rest img at) ≡ pick b (stmt_sum gates regs t (stmt_in tag p)) 0 + top_sum (then false tag p) (rest img next)
+            → top_sum false (field_in tag p ∷ l) ≡ pick b (stmt_sum gates regs t (stmt_in tag p)) 0 + top_sum (then false tag p) l
         go true f e =
-            let q = plain_stmt img at tag next p h et.0 ep en (stmt_plain tag f e) in
+            let q = first_plain tag p l (stmt_plain tag f e) in
             let n : eqb tag 5 ≡ false = ne_eqb tag 5 (λ z. let w : is_stmt 5 ≡ true = rw z at f in let z : ◌≡◌ {A = Bool} false true = w in subst T (sym z) tt) in
-            rw (top_here img at tag next p h et.0 ep en f, q.0, q.1, n) refl
-        go false f e =
-            other_here (λ l. stmts_sum gates regs t (tops l)) (λ sp x ds. refl) img at tag next p h et.0 ep en (λ c d o ds. refl) (λ g ds. refl) f ∙ (omega arith)
+            rw (first_top tag p l f, q.0, q.1, n) refl
+        go false f e = first_other (λ ds. stmts_sum gates regs t (tops ds)) (λ sp x ds. refl) tag p l (λ c d o ds. refl) (λ g ds. refl) f ∙ (omega arith)
 
-    pub top_turn : (i j : Bool) → j ≡ then i tag p → top_sum i (rest img at) ≡ pick i 0 (field_sum gates regs t tag p) + top_sum j (rest img next)
-    top_turn i j e = rw e (top_step i)
-
-  pub body_done : (img : List ℕ) (at : ℕ) → length img ≤ at → body_sum (rest img at) ≡ 0
+  -- where no field is left
+  pub body_done : body_sum [] ≡ 0
   unfolding stmts_sum stmts
-  body_done img at h = rw (rest_end img at h) refl
+  body_done = refl
 
-  pub top_done : (img : List ℕ) (i : Bool) (at : ℕ) → length img ≤ at → top_sum i (rest img at) ≡ 0
+  pub top_done : (i : Bool) → top_sum i [] ≡ 0
   unfolding stmts_sum tops decls
-  top_done img true at h = rw (rest_end img at h) refl
-  top_done img false at h = rw (rest_end img at h) refl
+  top_done true = refl
+  top_done false = refl
+
+-- nothing is declared where no field is left
+pub none_opened : (i : Bool) → decls i false [] ≡ []
+unfolding decls
+none_opened true = refl
+none_opened false = refl
 
 -- ---- registers
 
@@ -123,62 +129,44 @@ bits_append k [] b = omega arith
 bits_append true (r ∷ a) b = omega (arith, bits_append true a b)
 bits_append false (r ∷ a) b = omega (arith, bits_append false a b)
 
-abbrev pub regs_from : List ℕ → Bool → ℕ → List Reg
-regs_from img i at = registers (decls i false (rest img at))
-
-pub regs_done : (img : List ℕ) (i : Bool) (at : ℕ) → length img ≤ at → regs_from img i at ≡ []
-unfolding registers decls
-regs_done img true at h = rw (rest_end img at h) refl
-regs_done img false at h = rw (rest_end img at h) refl
-
-module _ (img : List ℕ) (at : ℕ) (h : at < length img) (tag : ℕ) (et : (tag ≡ get_or img at 0) × (tag < 256)) (p : List ℕ) (ep : p ≡ load_at img at) (next : ℕ) (en : next ≡ next_in img at) where
-  pub regs_turn : (i : Bool) → regs_from img i at ≡ rows_of (reg_here i tag p) ++ regs_from img (then i tag p) next
+module _ (tag : ℕ) (p : List ℕ) (l : List Field) where
+  pub regs_turn : (i : Bool) → registers (decls i false (field_in tag p ∷ l)) ≡ rows_of (reg_here i tag p) ++ registers (decls (then i tag p) false l)
   unfolding registers reg_here
-  regs_turn true = ap registers (inside_here img at tag next p h et.0 ep en)
+  regs_turn true = ap registers (first_inside tag p l)
   regs_turn false = elim (ℕ_discrete tag 3) [
-    | yes e ↦ ap registers (reg_here_lem img at tag next p h et.0 ep en false e) ∙ (rw (eq-eqb tag 3 e) refl)
+    | yes e ↦ ap registers (first_reg tag p l false e) ∙ (rw (eq-eqb tag 3 e) refl)
     | no e ↦ elim (ℕ_discrete tag 4) [
-      | yes f ↦ ap registers (reg_here_lem img at tag next p h et.0 ep en true f) ∙ (rw (ne_eqb tag 3 e, eq-eqb tag 4 f) refl)
-      | no f ↦
-          regs_skip registers (λ sp x ds. refl) img at tag next p h et.0 ep en (λ s ds. refl) (λ g ds. refl) e f ∙ (rw (ne_eqb tag 3 e, ne_eqb tag 4 f) refl)
+      | yes f ↦ ap registers (first_reg tag p l true f) ∙ (rw (ne_eqb tag 3 e, eq-eqb tag 4 f) refl)
+      | no f ↦ first_not_reg registers (λ sp x ds. refl) tag p l (λ s ds. refl) (λ g ds. refl) e f ∙ (rw (ne_eqb tag 3 e, ne_eqb tag 4 f) refl)
     ]
   ]
 
-  module _ (i : Bool) (f : Found) (ef : f ≡ reg_here i tag p) (j : Bool) (ej : j ≡ then i tag p) where
-    pub bits_turn : (k : Bool) (c : ℕ) → c ≡ bits_of k (rows_of f) → bits_of k (regs_from img i at) ≡ c + bits_of k (regs_from img j next)
-    bits_turn k c ec = rw (regs_turn i, ← ef, ← ej, ec) (bits_append k (rows_of f) (regs_from img j next))
+  pub bits_turn : (k i : Bool) → bits_of k (registers (decls i false (field_in tag p ∷ l))) ≡ bits_of k (rows_of (reg_here i tag p)) + bits_of k (registers (decls (then i tag p) false l))
+  bits_turn k i = rw (regs_turn i) (bits_append k (rows_of (reg_here i tag p)) (registers (decls (then i tag p) false l)))
 
-    pub starts_turn : (t : List ℕ) (e : Ends) (t' : List ℕ) (e' : Ends) (all : List ℕ) → start_fill e.quantum e.classical (regs_from img i at) t ≡ all → Enters t e f t' e'
-        → start_fill e'.quantum e'.classical (regs_from img j next) t' ≡ all
-    starts_turn t e t' e' all q s = sym (s.fill (regs_from img j next)) ∙ (rw (regs_turn i, ← ef, ← ej) at q)
+module _ (tag : ℕ) (p : List ℕ) (l : List Field) (i : Bool) (f : Option Reg) (ef : f ≡ reg_here i tag p) (q c : ℕ) (t all : List ℕ)
+    (h : start_fill q c (registers (decls i false (field_in tag p ∷ l))) t ≡ all) where
+  pub starts_none : f ≡ None → start_fill q c (registers (decls (then i tag p) false l)) t ≡ all
+  starts_none e = rw (regs_turn tag p l i, ← ef, e) at h
 
-pub bits_done : (k : Bool) (img : List ℕ) (i : Bool) (at : ℕ) → length img ≤ at → bits_of k (regs_from img i at) ≡ 0
-unfolding bits_of
-bits_done k img i at h = rw (regs_done img i at h) refl
-
-pub starts_done : (img : List ℕ) (i : Bool) (at q c : ℕ) (t all : List ℕ) → length img ≤ at → start_fill q c (regs_from img i at) t ≡ all → t ≡ all
-unfolding start_fill
-starts_done img i at q c t all h e = rw (regs_done img i at h) at e
+  pub starts_turn : (r : Reg) → f ≡ Some r → start_fill q c (r ∷ registers (decls (then i tag p) false l)) t ≡ all
+  starts_turn r e = rw (regs_turn tag p l i, ← ef, e) at h
 
 -- ---- gates
 
-abbrev gates_from : List ℕ → Bool → ℕ → List Gate
-gates_from img i at = gate_list (decls i false (rest img at))
-
--- at a place the first k gates are entered
-pub record Entered (img : List ℕ) (i : Bool) (at : ℕ) (places : List ℕ) (k : ℕ) : Type 0 where
+-- the first k gates are entered, and these are left
+pub record Entered (img : List ℕ) (ds : List Decl) (places : List ℕ) (k : ℕ) : Type 0 where
   pub before : List Gate
-  pub all : before ++ gates_from img i at ≡ gates_from img false 0
+  pub all : before ++ gate_list ds ≡ gate_list (decls false false (rest img 0))
   pub count : length before ≡ k
   pub have : Placed img before places
 
-pub entered_none : (img places : List ℕ) → Entered img false 0 places 0
+pub entered_none : (img places : List ℕ) → Entered img (decls false false (rest img 0)) places 0
 entered_none img places = record { before = []; all = refl; count = refl; have = record { at = λ i h l. absurd (omega arith) } }
 
-pub entered_all : (img : List ℕ) (i : Bool) (at : ℕ) (places : List ℕ) (k : ℕ) → length img ≤ at → Entered img i at places k → Placed img (gates_from img false 0) places
-unfolding gate_list decls
-entered_all img true at places k h e = rw (← e.all, rest_end img at h, append-nil) e.have
-entered_all img false at places k h e = rw (← e.all, rest_end img at h, append-nil) e.have
+pub entered_all : (img : List ℕ) (ds : List Decl) (places : List ℕ) (k : ℕ) → ds ≡ [] → Entered img ds places k → Placed img (gate_list (decls false false (rest img 0))) places
+unfolding gate_list
+entered_all img ds places k d e = subst (λ (gs : List Gate). Placed img gs places) (sym (append-nil e.before) ∙ (rw d at e.all)) e.have
 
 one_more : (img : List ℕ) (at : ℕ) (gs : List Gate) (g : Gate) (places : List ℕ) → gate_here img at ≡ g → Placed img gs places → Placed img (gs ++ (g ∷ [])) (set places (length gs) at)
 one_more img at gs g places e P = record {
@@ -195,37 +183,45 @@ one_more img at gs g places e P = record {
   ];
 }
 
-module _ (img : List ℕ) (at : ℕ) (h : at < length img) (tag : ℕ) (et : (tag ≡ get_or img at 0) × (tag < 256)) (p : List ℕ) (ep : p ≡ load_at img at) (next : ℕ) (en : next ≡ next_in img at)
-    (places : List ℕ) (k : ℕ) where
-  entered_step : (i there : Bool) → there ≡ gate_there i tag → (places' : List ℕ) (k' : ℕ) → (places' ≡ pick there (set places k at) places) × (k' ≡ pick there (k + 1) k)
-      → Entered img i at places k → Entered img (then i tag p) next places' k'
-  unfolding gate_there gate_list
-  entered_step true there e places' k' s E =
-      let f : there ≡ false = e in
-      rw (s.0, s.1, f) (record { before = E.before; all = ap (λ (l : List Decl). E.before ++ gate_list l) (sym (inside_here img at tag next p h et.0 ep en)) ∙ E.all; count = E.count; have = E.have })
-  entered_step false there e places' k' s E = elim (ℕ_discrete tag 5) [
-    | yes f ↦
-        let g : Gate = gate_at_place p (rest img next) in
-        let q : there ≡ true = e ∙ eq-eqb tag 5 f in
-        let c : length E.before ≡ k = E.count in
-        let w : gate_here img at ≡ g = rw (ep, en) refl in
-        rw (s.0, s.1, q) (record {
-          before = E.before ++ (g ∷ []);
-          all = append_assoc E.before (g ∷ []) (gates_from img (then false tag p) next)
-              ∙ ap (λ (l : List Decl). E.before ++ gate_list l) (sym (gate_here_lem img at tag next p h et.0 ep en f)) ∙ E.all;
-          count = length-append E.before (g ∷ []) ∙ ap (λ (n : ℕ). n + 1) c;
-          have = subst (λ (n : ℕ). Placed img (E.before ++ (g ∷ [])) (set places n at)) c (one_more img at E.before g places w E.have);
-        })
-    | no f ↦
-        let q : there ≡ false = e ∙ ne_eqb tag 5 f in
-        rw (s.0, s.1, q) (record {
-          before = E.before;
-          all = ap (λ (l : List Gate). E.before ++ l) (sym (gates_skip gate_list (λ sp x ds. refl) img at tag next p h et.0 ep en (λ s ds. refl) (λ c d o ds. refl) f)) ∙ E.all;
-          count = E.count;
-          have = E.have;
-        })
-  ]
+module _ (tag : ℕ) (p : List ℕ) (l : List Field) (img places : List ℕ) (k : ℕ) where
+  other_turn : (i : Bool) → (i ≡ false → tag ≡ 5 → ⊥) → Entered img (decls i false (field_in tag p ∷ l)) places k → Entered img (decls (then i tag p) false l) places k
+  unfolding gate_list
+  other_turn true n e = record { before = e.before; all = ap (λ (ds : List Decl). e.before ++ gate_list ds) (sym (first_inside tag p l)) ∙ e.all; count = e.count; have = e.have }
+  other_turn false n e = record {
+    before = e.before;
+    all = ap (λ (gs : List Gate). e.before ++ gs) (sym (first_not_gate gate_list (λ sp x ds. refl) tag p l (λ s ds. refl) (λ c d o ds. refl) (n refl))) ∙ e.all;
+    count = e.count;
+    have = e.have;
+  }
 
-  pub entered_turn : (i there : Bool) → there ≡ gate_there i tag → (j : Bool) → j ≡ then i tag p → (places' : List ℕ) (k' : ℕ)
-      → (places' ≡ pick there (set places k at) places) × (k' ≡ pick there (k + 1) k) → Entered img i at places k → Entered img j next places' k'
-  entered_turn i there e j ej places' k' s E = rw ej (entered_step i there e places' k' s E)
+  gate_turn : (at : ℕ) → tag ≡ 5 → gate_here img at ≡ gate_at_place p l → Entered img (decls false false (field_in tag p ∷ l)) places k
+      → Entered img (decls (then false tag p) false l) (set places k at) (k + 1)
+  unfolding gate_list
+  gate_turn at f g e =
+      let b : List Gate = e.before ++ (gate_at_place p l ∷ []) in
+      let r : List Gate = gate_list (decls (then false tag p) false l) in
+      record {
+        before = b;
+        all = append_assoc e.before (gate_at_place p l ∷ []) r ∙ ap (λ (ds : List Decl). e.before ++ gate_list ds) (sym (first_gate tag p l f)) ∙ e.all;
+        count = length-append e.before (gate_at_place p l ∷ []) ∙ ap (λ (n : ℕ). n + 1) e.count;
+        have = subst (λ (n : ℕ). Placed img b (set places n at)) e.count (one_more img at e.before (gate_at_place p l) places g e.have);
+      }
+
+module _ (img : List ℕ) (s t : Fields) (f : here.Field) (k : Passes s f t) (places : List ℕ) (n : ℕ) (e : Entered img (opened s) places n) where
+  -- no gate stands here
+  pub enters_none : (f.inside ≡ false) × (f.tag ≡ 5 → ⊥) ⊎ (f.inside ≡ true) → Entered img (opened t) places n
+  enters_none = ⊎_elim (λ o. go false (o.0) (λ q. o.1)) (λ o. go true o (λ q. absurd (true_no q)))
+    where
+      true_no : true ≡ false → ⊥
+      true_no q = subst T q tt
+
+      go : (i : Bool) → f.inside ≡ i → (i ≡ false → f.tag ≡ 5 → ⊥) → Entered img (opened t) places n
+      go i q m =
+          let h : Entered img (decls i false (field_in f.tag f.payload.now ∷ left t)) places n = rw (head_opened s t f k, q) at e in
+          rw (k.body, q) (other_turn f.tag f.payload.now (left t) img places n i m h)
+
+  -- a gate does
+  pub enters_gate : s.img.now ≡ img → f.inside ≡ false → f.tag ≡ 5 → Entered img (opened t) (set places n f.place) (n + 1)
+  enters_gate q i g =
+      let h : Entered img (decls false false (field_in f.tag f.payload.now ∷ left t)) places n = rw (head_opened s t f k, i) at e in
+      rw (k.body, i) (gate_turn f.tag f.payload.now (left t) img places n f.place g (rw (k.payload, k.img, k.next, k.place, q) refl) h)

@@ -1,6 +1,5 @@
 -- Where the gates of a program stand in its image.
-use Rattle.std.specs.Prelude.{◌≡◌, Bool, false, List, [], ◌∷◌, ℕ, ◌<◌, eqb, length, get_or}
-use Rattle.rules.specs.Basics.{pick}
+use Rattle.std.specs.Prelude.{◌≡◌, List, [], ◌∷◌, ℕ, ◌<◌, length, get_or}
 use Rattle.rules.specs.Reading.{load_at}
 use Rattle.rules.specs.Syntax.{Gate, Decl, include, reg, gate, top}
 use Rattle.rules.specs.Checking.{gate_at}
@@ -10,10 +9,6 @@ use Rattle.views.specs.Steps.{gate_at_place}
 -- the gate whose field stands at a place
 abbrev pub gate_here : (img : List ℕ) → ℕ → Gate
 gate_here img at = gate_at_place (load_at img at) (rest img (next_in img at))
-
--- does a gate's field stand where this tag does?
-unfoldable pub gate_there : (inside : Bool) → (tag : ℕ) → Bool
-gate_there inside tag = pick inside false (eqb tag 5)
 
 -- the gates of the declarations, in their order
 unfoldable pub gate_list : List Decl → List Gate

@@ -1,6 +1,5 @@
 -- Sizes and counts by tables: what the code works out, for any words in the tables and any bytes.
-use Rattle.std.specs.Prelude.{false, List, [], ◌∷◌, map, ℕ, ◌+◌, ◌*◌, min, eqb, get_or, set}
-use Rattle.std.proofs.Math.Option.{Option, none, some}
+use Rattle.std.specs.Prelude.{false, List, [], ◌∷◌, map, ℕ, ◌+◌, ◌*◌, min, eqb, get_or, set, Option, Some, None}
 use Rattle.rules.specs.Basics.{pick}
 use Rattle.rules.specs.Reading.{is_stmt, load_at}
 use Rattle.rules.specs.Syntax.{Stmt, u, cx, measure, reset, barrier, call, if, missing}
@@ -12,8 +11,8 @@ use Rattle.views.specs.View.{next_in, rest, stmt_in}
 use Rattle.tables.specs.Tables.{gate_in, reg_in}
 
 abbrev pub or_one : Option ℕ → ℕ
-or_one none = 1
-or_one (some n) = n
+or_one None = 1
+or_one (Some n) = n
 
 -- The size of an operand, and 1 where the table has none. In a body every operand's is 1, so that the empty table serves there.
 unfoldable pub size_in : (regs : List ℕ) → Asked → ℕ

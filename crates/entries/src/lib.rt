@@ -1,112 +1,93 @@
 // The entries of a run, each written to a lent buffer as far as it fits and counted whole.
-#![tactic(auto)]
+#![tactic(auto, unfolding(rules::specs::Run::entry_field, rules::specs::Answers::flat))]
 
-ghost use Rattle.std.specs.Prelude.{[], ◌∷◌, ◌++◌, length};
+ghost use Rattle.std.specs.Prelude.{[], ◌∷◌, ◌++◌};
 ghost use Rattle.rules.specs.Errors.{bytes4, tagged};
-ghost use Rattle.rules.specs.Run.{u_e, cx_e, measure_e, reset_e, barrier_e, barrier_end_e, opaque_e, if_e, if_end_e, bits_bytes, entry_field};
-ghost use Rattle.output.specs.Bytes.{Wrote};
-ghost use Rattle.output.specs.Sinks.{Put};
+ghost use Rattle.rules.specs.Run.{cx_e, measure_e, barrier_end_e, opaque_e, if_e, if_end_e, bits_bytes, entry_field};
+ghost use Rattle.output.specs.Writers.{Writes, Field, Puts};
+ghost use Rattle.entries.specs.Kinds.{one_of};
 
-use output::{Sink, one_more, put_head, put2, put4, put8};
+use output::Writer;
 
-// ---- fields of one bit, of two, and of none
+// ---- entries of one bit, of two, and of none: CX and MEASURE apart, and the two ends, since each promises its own constructor
 
-fn put_bit(out: &mut [u8], at: usize, tag: u8, bit: u64) -> usize
-    ensures { Wrote out.old at (tagged tag (bytes4 bit)) out.new result }
-{
-    let a = put_head(out, at, tag, 4);
-    put4(out, a, bit)
+#[derive(Clone, Copy)]
+pub enum Kind {
+    U,
+    Reset,
+    Barrier,
 }
 
-fn put_bits(out: &mut [u8], at: usize, tag: u8, x: u64, y: u64) -> usize
-    ensures { Wrote out.old at (tagged tag (bytes4 x ++ bytes4 y)) out.new result }
+pub fn put_one(w: &mut Writer, kind: Kind, qubit: u64)
+    ensures { Puts entry_field w.old (one_of kind qubit ∷ []) w.new }
 {
-    let a = put_head(out, at, tag, 8);
-    let b = put4(out, a, x);
-    put4(out, b, y)
+    let tag = match kind {
+        Kind::U => 32,
+        Kind::Reset => 35,
+        Kind::Barrier => 36,
+    };
+    w.put_head(tag, 4);
+    w.put4(qubit);
 }
 
-// ---- the entries, in the order of their tags
-
-pub fn u(out: &mut [u8], s: Sink, qubit: u64) -> Sink
-    ensures { Put entry_field out.old s (u_e qubit ∷ []) out.new result }
+fn put_bits(w: &mut Writer, tag: u8, x: u64, y: u64)
+    ensures { Field w.old (tagged tag (bytes4 x ++ bytes4 y)) w.new }
 {
-    let at = put_bit(out, s.bytes, 32, qubit);
-    one_more(s, at)
+    w.put_head(tag, 8);
+    w.put4(x);
+    w.put4(y);
 }
 
-pub fn cx(out: &mut [u8], s: Sink, copy: u64, xor: u64) -> Sink
-    ensures { Put entry_field out.old s (cx_e copy xor ∷ []) out.new result }
+pub fn cx(w: &mut Writer, copy: u64, xor: u64)
+    ensures { Puts entry_field w.old (cx_e copy xor ∷ []) w.new }
 {
-    let at = put_bits(out, s.bytes, 33, copy, xor);
-    one_more(s, at)
+    put_bits(w, 33, copy, xor);
 }
 
-pub fn measure(out: &mut [u8], s: Sink, qubit: u64, bit: u64) -> Sink
-    ensures { Put entry_field out.old s (measure_e qubit bit ∷ []) out.new result }
+pub fn measure(w: &mut Writer, qubit: u64, bit: u64)
+    ensures { Puts entry_field w.old (measure_e qubit bit ∷ []) w.new }
 {
-    let at = put_bits(out, s.bytes, 34, qubit, bit);
-    one_more(s, at)
+    put_bits(w, 34, qubit, bit);
 }
 
-pub fn reset(out: &mut [u8], s: Sink, qubit: u64) -> Sink
-    ensures { Put entry_field out.old s (reset_e qubit ∷ []) out.new result }
+pub fn barrier_end(w: &mut Writer)
+    ensures { Puts entry_field w.old (barrier_end_e ∷ []) w.new }
 {
-    let at = put_bit(out, s.bytes, 35, qubit);
-    one_more(s, at)
+    w.put_head(37, 0);
 }
 
-pub fn barrier(out: &mut [u8], s: Sink, qubit: u64) -> Sink
-    ensures { Put entry_field out.old s (barrier_e qubit ∷ []) out.new result }
-{
-    let at = put_bit(out, s.bytes, 36, qubit);
-    one_more(s, at)
-}
-
-pub fn barrier_end(out: &mut [u8], s: Sink) -> Sink
-    ensures { Put entry_field out.old s (barrier_end_e ∷ []) out.new result }
-{
-    let at = put_head(out, s.bytes, 37, 0);
-    one_more(s, at)
-}
+// ---- entries of more: a function for each, since each promises its own constructor
 
 // The numbers of bits in a row.
-fn put_row(out: &mut [u8], from: usize, bits: &[u64]) -> usize
-    ensures { Wrote out.old from (bits_bytes bits.now) out.new result }
+fn put_row(w: &mut Writer, bits: &[u64])
+    ensures { Writes w.old (bits_bytes bits.now) w.new }
 {
-    let mut at = from;
-    let mut i = 0;
-    while i < bits.len() {
-        at = put4(out, at, bits[i]);
-        i += 1;
+    for &bit in bits {
+        w.put4(bit);
     }
-    at
 }
 
 // A call of a gate without a body. (The length of a field takes two bytes: more qubits than 16,383, which no call has, do not show in it.)
-pub fn opaque_call(out: &mut [u8], s: Sink, name: u64, qubits: &[u64]) -> Sink
-    ensures { Put entry_field out.old s (opaque_e name qubits.now ∷ []) out.new result }
+pub fn opaque_call(w: &mut Writer, name: u64, qubits: &[u64])
+    ensures { Puts entry_field w.old (opaque_e name qubits.now ∷ []) w.new }
 {
     let few = qubits.len() % 16384;
-    let a = put_head(out, s.bytes, 38, 2 + 4 * few as u64);
-    let b = put2(out, a, name);
-    let at = put_row(out, b, qubits);
-    one_more(s, at)
+    w.put_head(38, 2 + 4 * few as u64);
+    w.put2(name);
+    put_row(w, qubits);
 }
 
-pub fn if_begin(out: &mut [u8], s: Sink, bit: u64, width: u64, value: u64) -> Sink
-    ensures { Put entry_field out.old s (if_e bit width value ∷ []) out.new result }
+pub fn if_begin(w: &mut Writer, bit: u64, width: u64, value: u64)
+    ensures { Puts entry_field w.old (if_e bit width value ∷ []) w.new }
 {
-    let a = put_head(out, s.bytes, 39, 16);
-    let b = put4(out, a, bit);
-    let c = put4(out, b, width);
-    let at = put8(out, c, value);
-    one_more(s, at)
+    w.put_head(39, 16);
+    w.put4(bit);
+    w.put4(width);
+    w.put8(value);
 }
 
-pub fn if_end(out: &mut [u8], s: Sink) -> Sink
-    ensures { Put entry_field out.old s (if_end_e ∷ []) out.new result }
+pub fn if_end(w: &mut Writer)
+    ensures { Puts entry_field w.old (if_end_e ∷ []) w.new }
 {
-    let at = put_head(out, s.bytes, 40, 0);
-    one_more(s, at)
+    w.put_head(40, 0);
 }

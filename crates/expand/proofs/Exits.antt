@@ -19,10 +19,11 @@ use Rattle.rules.specs.Answers.{flat, lay}
 use Rattle.theorems.specs.Count.{at}
 use Rattle.output.specs.declared.Sink.{Sink}
 use Rattle.output.specs.Bytes.{most}
-use Rattle.output.specs.Sinks.{Put}
+use Rattle.output.specs.Sinks.{Put, start}
 use Rattle.counts.specs.Sums.{stmts_sum, sum_fill}
 use Rattle.counts.specs.Starts.{start_fill}
 use Rattle.counts.specs.Places.{gate_list, Placed}
+use Rattle.run.specs.declared.Program.{Program}
 use Rattle.run.specs.Lines.{full}
 use Rattle.expand.specs.Expanding.{Answers, declared, writes, Lays, Counts, too_wide_lem, too_many, laid}
 
@@ -45,41 +46,41 @@ full_starts rs starts e =
     let n : length starts ≡ 512 = ap length e ∙ start_length 0 0 rs (replicate 512 0) ∙ length-replicate {A = ℕ} 512 0 in
     ap (λ (k : ℕ). starts ++ replicate (512 - k) 0) n ∙ append-nil starts ∙ e
 
-abbrev start : Sink
-start = record { items = 0; bytes = 0 }
-
-module _ (img gates regs places table starts : List ℕ) (es : starts ≡ start_fill 0 0 (registers (declared img)) (replicate 512 0)) (depth : ℕ) (out none none' : List ℕ) (w : Sink)
-    (h : Put entry_field none start (writes img gates regs places table (full starts) depth) none' w) where
+module _ (p : Program) (regs starts : List ℕ) (es : starts ≡ start_fill 0 0 (registers (declared p.img.now)) (replicate 512 0)) (depth : ℕ) (out none none' : List ℕ) (w : Sink) where
   abbrev all : List Entry
-  all = writes img gates regs places table (full starts) depth
+  all = writes p.img.now p.gates.now regs p.places.now p.counts.now (full starts) depth
 
-  same : (l : List Entry) → l ≡ writes img gates regs places table (start_fill 0 0 (registers (declared img)) (replicate 512 0)) depth → l ≡ all
-  same l e = e ∙ ap (λ (t : List ℕ). writes img gates regs places table t depth) (sym (full_starts (registers (declared img)) starts es))
+  abbrev Laying : Answer → List ℕ → Type 0
+  Laying r out' = Lays p.img.now p.gates.now regs p.places.now p.counts.now depth out r out'
 
-  pub lay_room : length out < w.bytes → Lays img gates regs places table depth out (Room w.items w.bytes) out
-  unfolding lay
-  lay_room short = record {
-    lays = λ l e few low.
-        let q = same l e in
-        let i : w.items ≡ length (map entry_field l) = rw q (omega (arith, h.count, length-map all entry_field, ap length q)) in
-        let b : w.bytes ≡ length (flat (map entry_field l)) = rw q (omega (arith, h.wrote.place, ap (λ (x : List Entry). length (flat (map entry_field x))) q)) in
-        let k : ltb (length out) (length (flat (map entry_field l))) ≡ true = lt-ltb _ _ (rw b at short) in
-        rw (k, i, b) refl;
-  }
+  same : (l : List Entry) → l ≡ writes p.img.now p.gates.now regs p.places.now p.counts.now (start_fill 0 0 (registers (declared p.img.now)) (replicate 512 0)) depth → l ≡ all
+  same l e = e ∙ ap (λ (t : List ℕ). writes p.img.now p.gates.now regs p.places.now p.counts.now t depth) (sym (full_starts (registers (declared p.img.now)) starts es))
 
-  pub lay_done : w.bytes ≤ length out → length out ≤ most → (out' : List ℕ) (r : Sink) → Put entry_field out start all out' r → Lays img gates regs places table depth out (Done r.items r.bytes) out'
-  unfolding lay
-  lay_done room fits out' r v = record {
-    lays = λ l e few low.
-        let q = same l e in
-        let i : r.items ≡ length (map entry_field l) = rw q (omega (arith, v.count, length-map all entry_field, ap length q)) in
-        let b : r.bytes ≡ length (flat (map entry_field l)) = rw q (omega (arith, v.wrote.place, ap (λ (x : List Entry). length (flat (map entry_field x))) q)) in
-        let c : w.bytes ≡ length (flat (map entry_field l)) = rw q (omega (arith, h.wrote.place, ap (λ (x : List Entry). length (flat (map entry_field x))) q)) in
-        let m : length (flat (map entry_field l)) ≤ length out = rw c at room in
-        let o : out' ≡ flat (map entry_field l) ++ drop (length (flat (map entry_field l))) out =
-        v.wrote.buffer fits ∙ ap (λ (x : List Entry). sets out 0 (flat (map entry_field x))) (sym q) ∙ laid_over out (flat (map entry_field l)) m in
-        rw (le-ltb (length out) (length (flat (map entry_field l))) m, i, b, o) refl;
-  }
+  module _ (h : Put entry_field none start all none' w) where
+    pub lay_room : length out < w.bytes → Laying (Room w.items w.bytes) out
+    unfolding lay
+    lay_room short = record {
+      lays = λ l e few low.
+          let q = same l e in
+          let i : w.items ≡ length (map entry_field l) = rw q (omega (arith, h.count, length-map all entry_field, ap length q)) in
+          let b : w.bytes ≡ length (flat (map entry_field l)) = rw q (omega (arith, h.wrote.place, ap (λ (x : List Entry). length (flat (map entry_field x))) q)) in
+          let k : ltb (length out) (length (flat (map entry_field l))) ≡ true = lt-ltb _ _ (rw b at short) in
+          rw (k, i, b) refl;
+    }
+
+    pub lay_done : w.bytes ≤ length out → length out ≤ most → (out' : List ℕ) (r : Sink) → Put entry_field out start all out' r → Laying (Done r.items r.bytes) out'
+    unfolding lay
+    lay_done room fits out' r v = record {
+      lays = λ l e few low.
+          let q = same l e in
+          let i : r.items ≡ length (map entry_field l) = rw q (omega (arith, v.count, length-map all entry_field, ap length q)) in
+          let b : r.bytes ≡ length (flat (map entry_field l)) = rw q (omega (arith, v.wrote.place, ap (λ (x : List Entry). length (flat (map entry_field x))) q)) in
+          let c : w.bytes ≡ length (flat (map entry_field l)) = rw q (omega (arith, h.wrote.place, ap (λ (x : List Entry). length (flat (map entry_field x))) q)) in
+          let m : length (flat (map entry_field l)) ≤ length out = rw c at room in
+          let o : out' ≡ flat (map entry_field l) ++ drop (length (flat (map entry_field l))) out =
+          v.wrote.buffer fits ∙ ap (λ (x : List Entry). sets out 0 (flat (map entry_field x))) (sym q) ∙ laid_over out (flat (map entry_field l)) m in
+          rw (le-ltb (length out) (length (flat (map entry_field l))) m, i, b, o) refl;
+    }
 
 module _ (img gates regs order table out : List ℕ) where
   pub wide : (k : Bool) (n : ℕ) → n ≡ min 4097 (bits_of k (registers (declared img))) → 4096 < n → Counts img gates regs order table out Machine out
@@ -102,5 +103,5 @@ module _ (img gates regs order table out : List ℕ) where
 pub crowded : (img gates regs order out : List ℕ) (r : Answer) → 128 < length order → Answers img gates regs order out r out
 crowded img gates regs order out r h = λ p O. absurd (omega (arith, O.room))
 
-pub given : (img gates regs order table out : List ℕ) (r : Answer) (out' : List ℕ) → length order ≤ 128 → length table ≡ 128 → Counts img gates regs order (take (length order - 0) table) out r out' → Answers img gates regs order out r out'
-given img gates regs order table out r out' h e c = c.gives (length-take (length order - 0) table ∙ (omega arith))
+pub given : (img gates regs order table out : List ℕ) (r : Answer) (out' : List ℕ) → length order ≤ 128 → length table ≡ 128 → Counts img gates regs order (take (length order) table) out r out' → Answers img gates regs order out r out'
+given img gates regs order table out r out' h e c = c.gives (length-take (length order) table ∙ (omega arith))

@@ -1,15 +1,13 @@
 -- Of a program without errors the sums by tables are the counts of its run.
-use Rattle.std.specs.Prelude.{◌≡◌, Bool, true, false, ◌&&◌, ℕ, zero, suc, ◌+◌, ◌<◌, ◌≤◌, min, eqb, get_or, set}
+use Rattle.rules.specs.declared.Header.{Header}
+use Rattle.std.specs.Prelude.{◌≡◌, Bool, true, false, ◌&&◌, ℕ, zero, suc, ◌+◌, ◌<◌, ◌≤◌, min, eqb, get_or, set, Option, Some, None}
 use Rattle.std.proofs.Math.Path.{refl, ap, ap₂, subst}
 use Rattle.std.proofs.Common.{sym}
-use Rattle.std.proofs.Math.Option.{Option, none, some}
 use mathlib.Core.List.{List, [], ◌∷◌, map}
 use native.Mathlib.Omega.{arith}
 use Rattle.std.proofs.Math.Nat.{mul-le-mul_left}
 use Rattle.std.proofs.Math.Dec.{T}
 use Rattle.std.proofs.Math.ListN.{length}
-use Rattle.rules.specs.declared.FoundGate.{FoundGate}
-use Rattle.rules.specs.declared.FoundGate.TheVariants.{Known, Unknown}
 use Rattle.rules.specs.Basics.{pick}
 use Rattle.rules.specs.Reading.{load_at}
 use Rattle.rules.specs.Syntax.{Stmt, u, cx, measure, reset, barrier, call, if, missing, Gate}
@@ -33,15 +31,15 @@ module _ (C : Scope) (gates regs : List ℕ) (M : Measures C regs) (eg : (x : �
   times_same qs k = go (sizes C qs) refl k
     where
       go : (o : Option (List ℕ)) → sizes C qs ≡ o → T (pairing o) → common (sizes_in regs qs) ≡ times o
-      go none e k = absurd k
-      go (some ns) e k = ap common (sym (sizes_same C regs M qs ns e))
+      go None e k = absurd k
+      go (Some ns) e k = ap common (sym (sizes_same C regs M qs ns e))
 
   barrier_same : (qs : List Asked) → T (is (sizes C qs)) → sum (sizes_in regs qs) + 1 ≡ barrier_count (sizes C qs)
   barrier_same qs k = go (sizes C qs) refl k
     where
       go : (o : Option (List ℕ)) → sizes C qs ≡ o → T (is o) → sum (sizes_in regs qs) + 1 ≡ barrier_count o
-      go none e k = absurd k
-      go (some ns) e k = ap (λ (l : List ℕ). sum l + 1) (sym (sizes_same C regs M qs ns e))
+      go None e k = absurd k
+      go (Some ns) e k = ap (λ (l : List ℕ). sum l + 1) (sym (sizes_same C regs M qs ns e))
 
   stmt_same : (s : Stmt) → T (passes C s) → stmt_sum gates regs t s ≡ stmt_count C t s
   unfolding stmt_sum stmt_count passes
@@ -78,7 +76,7 @@ module _ (gs : List Gate) (gates : List ℕ) (eg : (x : ℕ) → header gs x ≡
       ss : List Stmt
       ss = stmts false (rest img (next_in img place))
 
-      go : (b : Bool) → T (pass_body gs here (pick b (some ss) none)) → pick b (stmts_sum gates [] t ss) 1 ≡ body_count gs t here (pick b (some ss) none)
+      go : (b : Bool) → T (pass_body gs here (pick b (Some ss) None)) → pick b (stmts_sum gates [] t ss) 1 ≡ body_count gs t here (pick b (Some ss) None)
       go true k = stmts_same (body_scope gs here) gates [] (body_measures gs here) eg t ss k
       go false k = refl
 
@@ -94,9 +92,9 @@ module _ (gs : List Gate) (gates : List ℕ) (eg : (x : ℕ) → header gs x ≡
 -- ---- with more depth no gate counts less
 
 module _ (t v : ℕ → ℕ) (h : (c : ℕ) → t c ≤ v c) where
-  call_more : (found : FoundGate) → call_count found t ≤ call_count found v
-  call_more Unknown = omega arith
-  call_more (Known g) = h g.number
+  call_more : (found : Option Header) → call_count found t ≤ call_count found v
+  call_more None = omega arith
+  call_more (Some g) = h g.number
 
   stmt_more : (C : Scope) (s : Stmt) → stmt_count C t s ≤ stmt_count C v s
   unfolding stmt_count
@@ -115,8 +113,8 @@ module _ (t v : ℕ → ℕ) (h : (c : ℕ) → t c ≤ v c) where
   stmts_more C (s ∷ ss) = omega (arith, stmt_more C s, stmts_more C ss)
 
   body_more : (gs : List Gate) (g : Gate) (b : Option (List Stmt)) → body_count gs t g b ≤ body_count gs v g b
-  body_more gs g none = omega arith
-  body_more gs g (some ss) = stmts_more (body_scope gs g) ss
+  body_more gs g None = omega arith
+  body_more gs g (Some ss) = stmts_more (body_scope gs g) ss
 
 counts_more : (gs : List Gate) (d g : ℕ) → counts gs d g ≤ counts gs (suc d) g
 unfolding counts gate_count

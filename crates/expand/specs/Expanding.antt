@@ -1,5 +1,5 @@
 -- What expand answers for a program without errors, from what its parts give.
-use Rattle.std.specs.Prelude.{◌≡◌, refl, Bool, true, false, ◌||◌, T, ltb, take, drop, replicate}
+use Rattle.std.specs.Prelude.{◌≡◌, refl, Bool, true, false, ◌||◌, T, ltb, take, drop, replicate, Option, Some, None}
 use Rattle.std.proofs.Common.{sym, ◌∙◌, arith, lt-ltb, le-ltb, ltb→lt, length-append}
 use Rattle.std.proofs.Math.Path.{ap, ap₂, subst}
 use mathlib.Core.List.{List, [], ◌∷◌, map}
@@ -9,10 +9,7 @@ use Rattle.std.proofs.lemmas.List.{length-replicate}
 use Rattle.rules.specs.declared.Answer.{Answer}
 use Rattle.rules.specs.declared.Answer.TheVariants.{Done, Machine, Entries}
 use Rattle.rules.specs.declared.Header.{Header}
-use Rattle.rules.specs.declared.FoundGate.TheVariants.{Known}
 use Rattle.rules.specs.declared.Reg.{Reg}
-use Rattle.rules.specs.declared.Found.{Found}
-use Rattle.rules.specs.declared.Found.TheVariants.{Row, Nothing}
 use Rattle.rules.specs.Basics.{pick}
 use Rattle.rules.specs.Reading.{len_at, load_at}
 use Rattle.rules.specs.Syntax.{Gate, Decl, Program}
@@ -74,11 +71,11 @@ drop_byte l h zero i = h i
 drop_byte [] h (suc n) i = omega arith
 drop_byte (x ∷ l) h (suc n) i = drop_byte l (λ j. h (suc j)) n i
 
-reg_small : (regs : List ℕ) (x : ℕ) (r : Reg) → reg_in regs x ≡ Row r → x < 512
+reg_small : (regs : List ℕ) (x : ℕ) (r : Reg) → reg_in regs x ≡ Some r → x < 512
 unfolding reg_in
 reg_small regs x r e = go (ltb x 512) _ refl e
   where
-    go : (b : Bool) (f : Found) → ltb x 512 ≡ b → pick b f Nothing ≡ Row r → x < 512
+    go : (b : Bool) (f : Option Reg) → ltb x 512 ≡ b → pick b f None ≡ Some r → x < 512
     go true f q e = ltb→lt x 512 (subst T (sym q) tt)
     go false f q e = let k : ◌≡◌ {A = ℕ} 0 1 = cc in absurd (omega arith)
 
@@ -191,13 +188,13 @@ module _ (img gates regs order : List ℕ) (p : Program) (O : Of img gates regs 
         low : (g : ℕ) → g < length (gates_of p) → get_or t g 0 ≡ 0 → counts (gates_of p) (length (gates_of p)) g ≡ 0
         low g h z = omega (arith, solved p O.clear 4097 (at t) solves g h)
 
-        called : (x : ℕ) (h : Header) → header (gates_of p) x ≡ Known h → (bs : List ℕ) → length bs ≡ h.args → Low bs → (es : List Entry) → run_gate (gates_of p) (length (gates_of p)) h.number bs ≡ done es
+        called : (x : ℕ) (h : Header) → header (gates_of p) x ≡ Some h → (bs : List ℕ) → length bs ≡ h.args → Low bs → (es : List Entry) → run_gate (gates_of p) (length (gates_of p)) h.number bs ≡ done es
             → (es ≡ gate_lines img gates t places (length (gates_of p)) h.number bs) × Each Short es
         called x h k bs n l es e =
             let q = header_number (gates_of p) x h k in
             gate_run (gates_of p) gates img places t O.gates' placed room low few (length (gates_of p)) (omega arith) h.number q.0 bs (n ∙ q.1) l es e
 
-        silent : (x : ℕ) (h : Header) → header (gates_of p) x ≡ Known h → get_or t h.number 0 ≡ 0 → (bs : List ℕ) (es : List Entry) → run_gate (gates_of p) (length (gates_of p)) h.number bs ≡ done es → es ≡ []
+        silent : (x : ℕ) (h : Header) → header (gates_of p) x ≡ Some h → get_or t h.number 0 ≡ 0 → (bs : List ℕ) (es : List Entry) → run_gate (gates_of p) (length (gates_of p)) h.number bs ≡ done es → es ≡ []
         silent = nothing_run (gates_of p) gates img places t O.gates' placed room low few (length (gates_of p)) (omega arith)
 
         written : (es : List Entry) → run_of p ≡ done es

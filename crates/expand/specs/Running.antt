@@ -1,10 +1,9 @@
 -- Of a program without errors what is written is its run.
-use Rattle.std.specs.Prelude.{◌≡◌, ◌⊎◌, Bool, ◌||◌, leb, replicate}
+use Rattle.std.specs.Prelude.{◌≡◌, ◌⊎◌, Bool, ◌||◌, leb, replicate, Option, Some, None}
 use Rattle.std.proofs.Math.Path.{refl, sym, ap, ap₂, subst}
 use Rattle.std.proofs.Common.{◌∙◌, mod-lt, eq-eqb, ne_eqb, eqb-true, lit<}
 use Rattle.std.proofs.Math.Logic.{⊎_elim}
 use Rattle.std.proofs.Math.Bool.{true, false}
-use Rattle.std.proofs.Math.Option.{none, some}
 use mathlib.Core.List.{List, [], ◌∷◌, ◌++◌, map}
 use Prim.Native.Nat.{ℕ, zero, suc, ◌+◌, ◌-◌, ◌*◌, ◌<◌, ◌≤◌}
 use native.Mathlib.Omega.{arith}
@@ -14,9 +13,6 @@ use Rattle.std.proofs.Math.ListN.{length, get_or, length-map}
 use Rattle.rules.specs.declared.Operand.{Operand}
 use Rattle.rules.specs.declared.Reg.{Reg}
 use Rattle.rules.specs.declared.Header.{Header}
-use Rattle.rules.specs.declared.FoundGate.TheVariants.{Known, Unknown}
-use Rattle.rules.specs.declared.Found.{Found}
-use Rattle.rules.specs.declared.Found.TheVariants.{Row, Nothing}
 use Rattle.rules.specs.Basics.{pick}
 use Rattle.rules.specs.Reading.{load_at}
 use Rattle.rules.specs.Syntax.{Stmt, u, cx, measure, reset, barrier, call, if, missing, Gate}
@@ -37,16 +33,17 @@ use Rattle.output.specs.Bytes.{plus}
 use Rattle.tables.specs.Tables.{gate_in}
 use Rattle.counts.specs.Sums.{size_in, sizes_in}
 use Rattle.counts.specs.Places.{gate_here, Placed}
-use Rattle.run.specs.declared.Kind.{Kind}
-use Rattle.run.specs.declared.Kind.TheVariants.{U, Reset, Barrier}
-use Rattle.run.specs.Lines.{start_in, lane_of, lanes_in, turn_list, spread_in, one_of, two_of, one_turns, two_turns, barrier_row, line, lines, top_line, top_lines, frame_of, gate_lines}
+use Rattle.entries.specs.declared.Kind.{Kind}
+use Rattle.entries.specs.declared.Kind.TheVariants.{U, Reset, Barrier}
+use Rattle.entries.specs.Kinds.{one_of}
+use Rattle.run.specs.Lines.{start_in, lane_of, lanes_in, turn_list, spread_in, two_of, one_turns, two_turns, barrier_row, line, lines, top_line, top_lines, frame_of, gate_lines}
 use Rattle.expand.specs.Tables.{Measures, sizes_same, body_single, body_measures, frame_bits}
 use Rattle.expand.specs.Counting.{counts_deeper}
 
 done_same : (es fs : List Entry) → done es ≡ done fs → fs ≡ es
 done_same es fs e = cc
 
-size_size : (z : Sized) (n : ℕ) → size_only z ≡ some n → z ≡ size n
+size_size : (z : Sized) (n : ℕ) → size_only z ≡ Some n → z ≡ size n
 size_size (size m) n e = cc
 size_size (bad x) n e = let k : ◌≡◌ {A = ℕ} 0 1 = cc in absurd (omega arith)
 
@@ -126,7 +123,7 @@ module _ (P : Place) (gates regs bits : List ℕ) (S : Stands P gates regs bits)
       let x : ℕ = pick q.operand.indexed q.operand.index 0 in
       rw (← s) (omega arith)
 
-  lanes_same : (qs : List Asked) (ns : List ℕ) → sizes P.scope qs ≡ some ns → (j : ℕ) → j ≤ 4096 → lanes P j ns qs ≡ lanes_in regs bits j qs
+  lanes_same : (qs : List Asked) (ns : List ℕ) → sizes P.scope qs ≡ Some ns → (j : ℕ) → j ≤ 4096 → lanes P j ns qs ≡ lanes_in regs bits j qs
   unfolding lanes lanes_in
   lanes_same [] ns e j l = rw (sizes_nil P.scope ns e) refl
   lanes_same (q ∷ qs) ns e j l =
@@ -144,7 +141,7 @@ module _ (P : Place) (gates regs bits : List ℕ) (S : Stands P gates regs bits)
       lane : (x y n : ℕ) (c d : Bool) → x ≡ y → c ≡ d → x + n ≤ 4096 → x + pick c 0 j ≡ plus y (pick d 0 j)
       lane x y n c d e f h = rw (← e, ← f) (omega (arith, small c))
 
-  lanes_low : (qs : List Asked) (ns : List ℕ) → sizes P.scope qs ≡ some ns → (k j : ℕ) → T (paired k ns) → j < k → Low (lanes P j ns qs) × (length (lanes P j ns qs) ≡ length qs)
+  lanes_low : (qs : List Asked) (ns : List ℕ) → sizes P.scope qs ≡ Some ns → (k j : ℕ) → T (paired k ns) → j < k → Low (lanes P j ns qs) × (length (lanes P j ns qs) ≡ length qs)
   unfolding lanes paired
   lanes_low [] ns e k j t l = rw (sizes_nil P.scope ns e) (tt, refl)
   lanes_low (q ∷ qs) ns e k j t l =
@@ -163,7 +160,7 @@ module _ (P : Place) (gates regs bits : List ℕ) (S : Stands P gates regs bits)
             rw (ne_eqb n 1 e) (omega arith)
       ]
 
-  common_small : (qs : List Asked) (ns : List ℕ) → sizes P.scope qs ≡ some ns → common ns ≤ 4096
+  common_small : (qs : List Asked) (ns : List ℕ) → sizes P.scope qs ≡ Some ns → common ns ≤ 4096
   unfolding common
   common_small [] ns e = rw (sizes_nil P.scope ns e) (omega arith)
   common_small (q ∷ qs) ns e =
@@ -221,7 +218,7 @@ module _ (P : Place) (gates regs bits : List ℕ) (S : Stands P gates regs bits)
       one : s + j ≡ lane_of s n j
       one = elim (ℕ_discrete n 1) [ yes q ↦ rw (eq-eqb n 1 q) (omega arith) | no q ↦ rw (ne_eqb n 1 q) (omega arith) ]
 
-  barrier_same : (qs : List Asked) (ns : List ℕ) → sizes P.scope qs ≡ some ns → barrier_qubits P ns qs ≡ barrier_row regs bits qs
+  barrier_same : (qs : List Asked) (ns : List ℕ) → sizes P.scope qs ≡ Some ns → barrier_qubits P ns qs ≡ barrier_row regs bits qs
   unfolding barrier_qubits barrier_row one_turns
   barrier_same [] ns e = rw (sizes_nil P.scope ns e) refl
   barrier_same (q ∷ qs) ns e =
@@ -239,8 +236,8 @@ module _ (P : Place) (gates regs bits : List ℕ) (S : Stands P gates regs bits)
   -- ---- statements
 
   module _ (f : ℕ → List ℕ → Out) (f' : ℕ → List ℕ → List Entry) (table : List ℕ)
-      (same : (x : ℕ) (h : Header) → P.scope.gates x ≡ Known h → (bs : List ℕ) → length bs ≡ h.args → Low bs → (es : List Entry) → f h.number bs ≡ done es → es ≡ f' h.number bs)
-      (nothing : (x : ℕ) (h : Header) → P.scope.gates x ≡ Known h → get_or table h.number 0 ≡ 0 → (bs : List ℕ) (es : List Entry) → f h.number bs ≡ done es → es ≡ []) where
+      (same : (x : ℕ) (h : Header) → P.scope.gates x ≡ Some h → (bs : List ℕ) → length bs ≡ h.args → Low bs → (es : List Entry) → f h.number bs ≡ done es → es ≡ f' h.number bs)
+      (nothing : (x : ℕ) (h : Header) → P.scope.gates x ≡ Some h → get_or table h.number 0 ≡ 0 → (bs : List ℕ) (es : List Entry) → f h.number bs ≡ done es → es ≡ []) where
     run_same : (s : Stmt) (es : List Entry) → run f P s ≡ done es → es ≡ top_line f' gates table regs bits s
     unfolding run top_line line
     run_same (u sp o x y z) es e =
@@ -255,13 +252,13 @@ module _ (P : Place) (gates regs bits : List ℕ) (S : Stands P gates regs bits)
         let c = calling_done (P.scope.gates x) (length xs) (length os) _ es e in
         let g = guard_done (all_known P.scope.params xs) _ es c.ran in
         let h = c.header in
-        let k : T (callable (Known h) (length xs) (length os)) = rw c.known at c.counts in
+        let k : T (callable (Some h) (length xs) (length os)) = rw c.known at c.counts in
         let a = eqb→eq h.args (length os) (and_T (eqb h.params (length xs)) (eqb h.args (length os)) k).1 in
         let m = length-map os quantum in
-        let i : gate_in gates x ≡ Known h = sym (S.known x) ∙ c.known in
+        let i : gate_in gates x ≡ Some h = sym (S.known x) ∙ c.known in
         rw i (go (eqb (get_or table h.number 0) 0) refl c.known g.1 (λ bs l. l ∙ m ∙ sym a))
       where
-        go : {h : Header} (b : Bool) → eqb (get_or table h.number 0) 0 ≡ b → P.scope.gates x ≡ Known h → spread P (map quantum os) (f h.number) ≡ done es
+        go : {h : Header} (b : Bool) → eqb (get_or table h.number 0) 0 ≡ b → P.scope.gates x ≡ Some h → spread P (map quantum os) (f h.number) ≡ done es
             → ((bs : List ℕ) → length bs ≡ length (map quantum os) → length bs ≡ h.args)
             → es ≡ pick b [] (spread_in regs bits (map quantum os) (f' h.number))
         go {h} true q k r l =
@@ -283,7 +280,7 @@ module _ (P : Place) (gates regs bits : List ℕ) (S : Stands P gates regs bits)
         b.all ∙ ap₂ (λ (x y : List Entry). x ++ y) (run_same s b.left b.one) (runs_same ss b.right b.two)
 
     -- every entry takes few bytes, if those of the calls do
-    module _ (few : (x : ℕ) (h : Header) → P.scope.gates x ≡ Known h → (bs : List ℕ) → length bs ≡ h.args → Low bs → (es : List Entry) → f h.number bs ≡ done es → Each Short es) where
+    module _ (few : (x : ℕ) (h : Header) → P.scope.gates x ≡ Some h → (bs : List ℕ) → length bs ≡ h.args → Low bs → (es : List Entry) → f h.number bs ≡ done es → Each Short es) where
       run_short : (s : Stmt) (es : List Entry) → run f P s ≡ done es → Each Short es
       unfolding run Short entry_field
       run_short (u sp o x y z) es e =
@@ -298,7 +295,7 @@ module _ (P : Place) (gates regs bits : List ℕ) (S : Stands P gates regs bits)
       run_short (call sp ns x xs os) es e =
           let c = calling_done (P.scope.gates x) (length xs) (length os) _ es e in
           let g = guard_done (all_known P.scope.params xs) _ es c.ran in
-          let k : T (callable (Known c.header) (length xs) (length os)) = rw c.known at c.counts in
+          let k : T (callable (Some c.header) (length xs) (length os)) = rw c.known at c.counts in
           let a = eqb→eq c.header.args (length os) (and_T (eqb c.header.params (length xs)) (eqb c.header.args (length os)) k).1 in
           spread_each Short (map quantum os) (f c.header.number) es g.1 (λ bs l w fs d. few x c.header c.known bs (l ∙ length-map os quantum ∙ sym a) w fs d)
       run_short (if sp o vs v s) es e =
@@ -337,37 +334,37 @@ module _ (P : Place) (gates regs bits : List ℕ) (S : Stands P gates regs bits)
 
 -- ---- gates
 
-row_row : (r s : Reg) → Row r ≡ Row s → r ≡ s
+row_row : (r s : Reg) → Some r ≡ Some s → r ≡ s
 row_row r s e = cc
 
-no_row : (s : Reg) → Nothing ≡ Row s → ⊥
+no_row : (s : Reg) → None ≡ Some s → ⊥
 no_row s e = let k : ◌≡◌ {A = ℕ} 0 1 = cc in omega arith
 
-latest_name : (rs : List Reg) (x : ℕ) (r : Reg) → latest rs x ≡ Row r → r.name ≡ x
+latest_name : (rs : List Reg) (x : ℕ) (r : Reg) → latest rs x ≡ Some r → r.name ≡ x
 unfolding latest
 latest_name [] x r e = absurd (no_row r e)
 latest_name (s ∷ rs) x r e = go (latest_name rs x r) (latest rs x) refl (eqb s.name x) refl e
   where
-    go : (latest rs x ≡ Row r → r.name ≡ x) → (f : Found) → latest rs x ≡ f → (b : Bool) → eqb s.name x ≡ b → later f (pick b (Row s) Nothing) ≡ Row r → r.name ≡ x
-    go ih (Row t) q b i e = ih (q ∙ e)
-    go ih Nothing q true i e = ap (λ (z : Reg). z.name) (sym (row_row s r e)) ∙ eqb-true s.name x i
-    go ih Nothing q false i e = absurd (no_row r e)
+    go : (latest rs x ≡ Some r → r.name ≡ x) → (f : Option Reg) → latest rs x ≡ f → (b : Bool) → eqb s.name x ≡ b → later f (pick b (Some s) None) ≡ Some r → r.name ≡ x
+    go ih (Some t) q b i e = ih (q ∙ e)
+    go ih None q true i e = ap (λ (z : Reg). z.name) (sym (row_row s r e)) ∙ eqb-true s.name x i
+    go ih None q false i e = absurd (no_row r e)
 
 names_small : (k : ℕ) (s : List ℕ) (at : ℕ) → Each (λ r. r.name < 512) (map argument (row_in named_in 6 k s at))
 unfolding row_in named_in
 names_small zero s at = tt
 names_small (suc k) s at = (mod-lt _ (lit< tt), names_small k s (at + 6))
 
-name_small : (k : ℕ) (s : List ℕ) (at x : ℕ) (r : Reg) → latest (map argument (row_in named_in 6 k s at)) x ≡ Row r → x < 512
+name_small : (k : ℕ) (s : List ℕ) (at x : ℕ) (r : Reg) → latest (map argument (row_in named_in 6 k s at)) x ≡ Some r → x < 512
 name_small k s at x r e =
     let rs : List Reg = map argument (row_in named_in 6 k s at) in
     subst (λ (n : ℕ). n < 512) (latest_name rs x r e) (latest_each (λ r. r.name < 512) rs x r (names_small k s at) e)
 
-pub header_number : (gs : List Gate) (x : ℕ) (h : Header) → header gs x ≡ Known h → (h.number < length gs) × (h.args ≡ length (gate_at gs h.number).args)
+pub header_number : (gs : List Gate) (x : ℕ) (h : Header) → header gs x ≡ Some h → (h.number < length gs) × (h.args ≡ length (gate_at gs h.number).args)
 unfolding header
 header_number gs x h e = go (is_gate gs x) refl e
   where
-    go : (b : Bool) → is_gate gs x ≡ b → pick b (Known (header_of gs (number_of gs x))) Unknown ≡ Known h → (h.number < length gs) × (h.args ≡ length (gate_at gs h.number).args)
+    go : (b : Bool) → is_gate gs x ≡ b → pick b (Some (header_of gs (number_of gs x))) None ≡ Some h → (h.number < length gs) × (h.args ≡ length (gate_at gs h.number).args)
     go true i e =
         let q : header_of gs (number_of gs x) ≡ h = cc in
         let n = number_of_lem gs x (subst T (sym i) tt) in
@@ -384,7 +381,7 @@ empty (x ∷ es) e = absurd (omega arith)
 module _ (gs : List Gate) (gates img places table : List ℕ) (eg : (x : ℕ) → header gs x ≡ gate_in gates x) (at : Placed img gs places) (room : length gs ≤ length places)
     (low : (g : ℕ) → g < length gs → get_or table g 0 ≡ 0 → counts gs (length gs) g ≡ 0) (few : (g : ℕ) → g < length gs → length (gate_at gs g).args ≤ 255) where
   -- a gate that counts nothing writes nothing
-  pub nothing_run : (d : ℕ) → d ≤ length gs → (x : ℕ) (h : Header) → header gs x ≡ Known h → get_or table h.number 0 ≡ 0 → (bs : List ℕ) (es : List Entry) → run_gate gs d h.number bs ≡ done es → es ≡ []
+  pub nothing_run : (d : ℕ) → d ≤ length gs → (x : ℕ) (h : Header) → header gs x ≡ Some h → get_or table h.number 0 ≡ 0 → (bs : List ℕ) (es : List Entry) → run_gate gs d h.number bs ≡ done es → es ≡ []
   nothing_run d l x h k z bs es e =
       let n : (length gs - d) + d ≡ length gs = omega arith in
       let m = subst (λ (j : ℕ). counts gs d h.number ≤ counts gs j h.number) n (counts_deeper gs d (length gs - d) h.number) in
@@ -425,8 +422,8 @@ module _ (gs : List Gate) (gates img places table : List ℕ) (eg : (x : ℕ) �
       frame : List ℕ
       frame = frame_of (load_at img place) qs (replicate 512 0)
 
-      by : ((x : ℕ) (h : Header) → header gs x ≡ Known h → (bs : List ℕ) → length bs ≡ h.args → Low bs → (fs : List Entry) → run_gate gs d h.number bs ≡ done fs → Written d h.number bs fs)
-          → (b : Bool) → length qs ≡ length (gate_here img place).args → run_body gs (run_gate gs d) (gate_here img place) (pick b (some ss) none) qs ≡ done es
+      by : ((x : ℕ) (h : Header) → header gs x ≡ Some h → (bs : List ℕ) → length bs ≡ h.args → Low bs → (fs : List Entry) → run_gate gs d h.number bs ≡ done fs → Written d h.number bs fs)
+          → (b : Bool) → length qs ≡ length (gate_here img place).args → run_body gs (run_gate gs d) (gate_here img place) (pick b (Some ss) None) qs ≡ done es
           → (es ≡ pick b (lines (gate_lines img gates table places d) gates table [] frame ss) (opaque_e (name_in (load_at img place) 8) qs ∷ [])) × Each Short es
       by callee true n e =
           let S = body_stands place qs n w in (

@@ -1,14 +1,13 @@
 -- What the tables say of a program: sizes of operands, first bits of names, and where the gates stand.
-use Rattle.std.specs.Prelude.{◌≡◌, refl, Bool, true, false, List, [], ◌∷◌, ◌++◌, map, ℕ, zero, suc, ◌+◌, ◌<◌, ◌≤◌, min, ltb, length, get_or, set, drop, replicate}
+use Rattle.std.specs.Prelude.{◌≡◌, refl, Bool, true, false, List, [], ◌∷◌, ◌++◌, map, ℕ, zero, suc, ◌+◌, ◌<◌, ◌≤◌, min, ltb, length, get_or, set, drop, replicate, Option, Some, None}
 use Rattle.std.proofs.Common.{sym, ap, ap₂, ◌∙◌, subst, append_assoc, append-nil, arith, eq-eqb, ne_eqb, length-set, drop_of_length-le, drop-cons, get_or-set_same, get_or-set_other}
-use Rattle.std.proofs.Math.Option.{some}
 use Rattle.std.proofs.Math.Decide.{ℕ_discrete}
 use Rattle.std.proofs.lemmas.List.{length-replicate, get_or-replicate}
 use Rattle.std.proofs.Math.ListN.{get_or-eq_default}
 use Rattle.rules.specs.declared.Reg.{Reg}
-use Rattle.rules.specs.declared.Found.TheVariants.{Nothing}
 use Rattle.rules.specs.Basics.{pick}
-use Rattle.rules.specs.Syntax.{Named, Gate, Decl, include, reg, gate, top, Program}
+use Rattle.rules.specs.declared.Named.{Named}
+use Rattle.rules.specs.Syntax.{Gate, Decl, include, reg, gate, top, Program}
 use Rattle.rules.specs.Checking.{Scope, header, is_gate, entered, entries, gates_of, header_errors, decl_errors, latest, argument, registers, top_scope, body_scope, Asked, size, assert_reg}
 use Rattle.rules.specs.Run.{no_reg, sizes, latest_of, starts_from, bits_of, bit_of}
 use Rattle.theorems.specs.Words.{Each}
@@ -27,7 +26,7 @@ use Rattle.run.specs.Lines.{frame_fill}
 abbrev pub Measures : Scope → (regs : List ℕ) → Type 0
 Measures C regs = (q : Asked) (n : ℕ) → assert_reg C.regs 0 q ≡ size n → n ≡ size_in regs q
 
-pub sizes_same : (C : Scope) (regs : List ℕ) → Measures C regs → (qs : List Asked) (ns : List ℕ) → sizes C qs ≡ some ns → ns ≡ sizes_in regs qs
+pub sizes_same : (C : Scope) (regs : List ℕ) → Measures C regs → (qs : List Asked) (ns : List ℕ) → sizes C qs ≡ Some ns → ns ≡ sizes_in regs qs
 unfolding sizes_in
 sizes_same C regs M [] ns e = sizes_nil C ns e
 sizes_same C regs M (q ∷ qs) ns e =
@@ -40,11 +39,11 @@ pub top_measures : (gs : List Gate) (ds : List Decl) (regs : List ℕ) → ((x :
 unfolding size_in assert_reg top_scope
 top_measures gs ds regs er q n e = rw (← er q.operand.name, e) refl
 
-reg_none : (x : ℕ) → reg_in [] x ≡ Nothing
+reg_none : (x : ℕ) → reg_in [] x ≡ None
 unfolding reg_in
 reg_none x = go (ltb x 512)
   where
-    go : (b : Bool) → pick b Nothing Nothing ≡ Nothing
+    go : (b : Bool) → ◌≡◌ {A = Option Reg} (pick b None None) None
     go true = refl
     go false = refl
 

@@ -1,86 +1,77 @@
 // Expand, for a program that check finds no errors in: 9, then 10, then 11, and otherwise the run. A refused call changes no byte.
 #![tactic(auto)]
 
-ghost use Rattle.expand.specs.Expanding.{Answers, Lays, Counts};
+ghost use Rattle.rules.specs.Run.{entry_field};
+ghost use Rattle.output.specs.Sinks.{Put, start};
+ghost use Rattle.run.specs.Lines.{full};
+ghost use Rattle.expand.specs.Expanding.{writes, Answers, Lays, Counts};
 
 use counts::{count_gates, count_top, fill_places, fill_starts, total_bits};
-use output::Sink;
+use output::{Sink, Writer};
 use rules::Answer;
-use run::run_top;
+use run::{Program, run_top};
+use tables::Scope;
+
+// The run, written from the front of a buffer on.
+fn write(program: Program, regs: &[u64], starts: &[u64], depth: usize, out: &mut [u8]) -> Sink
+    ensures { Put entry_field out.old start (writes program.entry.img.now program.entry.gates.now regs.now program.entry.places.now program.entry.counts.now (full starts.now) depth) out.new result }
+{
+    let mut w = Writer::on(out);
+    run_top(&mut w, program, regs, starts, depth);
+    w.sink
+}
 
 // Counted first, over an empty buffer, and then written, if there is room.
-fn lay_run(
-    img: &[u8],
-    gates: &[u64],
-    regs: &[u64],
-    places: &[u64],
-    table: &[u64],
-    depth: usize,
-    out: &mut [u8],
-) -> Answer
-    ensures { Lays img.now gates.now regs.now places.now table.now depth out.old result out.new }
+fn lay_run(program: Program, regs: &[u64], depth: usize, out: &mut [u8]) -> Answer
+    ensures { Lays program.entry.img.now program.entry.gates.now regs.now program.entry.places.now program.entry.counts.now depth out.old result out.new }
 {
-    let mut starts = [0u64; 512];
-    fill_starts(img, &mut starts);
-    let mut none = [0u8; 0];
-    let start = Sink { items: 0, bytes: 0 };
-    let w = run_top(
-        &mut none, start, img, gates, table, places, regs, &starts, depth,
-    );
-    if out.len() < w.bytes {
-        return Answer::Room {
-            items: w.items,
-            bytes: w.bytes,
-        };
+    let mut starts = [0; 512];
+    fill_starts(program.img, &mut starts);
+    let Sink { items, bytes } = write(program, regs, &starts, depth, &mut []);
+    if out.len() < bytes {
+        return Answer::Room { items, bytes };
     }
-    let r = run_top(out, start, img, gates, table, places, regs, &starts, depth);
-    Answer::Done {
-        items: r.items,
-        bytes: r.bytes,
-    }
+    let Sink { items, bytes } = write(program, regs, &starts, depth, out);
+    Answer::Done { items, bytes }
 }
 
 // With room for a count of each gate.
 fn expand_counting(
     img: &[u8],
-    gates: &[u64],
-    regs: &[u64],
+    scope: Scope,
     order: &[u64],
-    table: &mut [u64],
+    counts: &mut [u64],
     out: &mut [u8],
 ) -> Answer
-    ensures { Counts img.now gates.now regs.now order.now table.old out.old result out.new }
+    ensures { Counts img.now scope.entry.gates.now scope.entry.regs.now order.now counts.old out.old result out.new }
 {
-    if 4096 < total_bits(img, false) {
+    if 4096 < total_bits(img, false) || 4096 < total_bits(img, true) {
         return Answer::Machine;
     }
-    if 4096 < total_bits(img, true) {
-        return Answer::Machine;
-    }
-    let mut places = [0u64; 128];
+    let mut places = [0; 128];
     fill_places(img, &mut places);
-    count_gates(img, gates, &places, order, table);
-    if 4096 < count_top(img, gates, regs, table) {
+    count_gates(img, scope.gates, &places, order, counts);
+    if 4096 < count_top(img, scope.gates, scope.regs, counts) {
         return Answer::Entries;
     }
-    lay_run(img, gates, regs, &places, table, order.len(), out)
+    let program = Program {
+        img,
+        gates: scope.gates,
+        counts,
+        places: &places,
+    };
+    lay_run(program, scope.regs, order.len(), out)
 }
 
 // The program is the one that the image spells, the tables are its gates and its registers by their names, and the order is that of its gates,
 // 128 at most.
-pub fn expand_admitted(
-    img: &[u8],
-    gates: &[u64],
-    regs: &[u64],
-    order: &[u64],
-    out: &mut [u8],
-) -> Answer
-    ensures { Answers img.now gates.now regs.now order.now out.old result out.new }
+pub fn expand_admitted(img: &[u8], scope: Scope, order: &[u64], out: &mut [u8]) -> Answer
+    ensures { Answers img.now scope.entry.gates.now scope.entry.regs.now order.now out.old result out.new }
 {
     let n = order.len();
     if 128 < n {
         return Answer::Entries;
     }
-    let mut table = [0u64; 128];
-    expand_counting(img, gates, regs, order, &mut table[0..n], out)
+    let mut counts = [0; 128];
+    expand_counting(img, scope, order, &mut counts[..n], out)
 }

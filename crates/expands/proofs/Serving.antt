@@ -8,27 +8,23 @@ use borrow.Author.Tests.{ne_eqb}
 use lib.ListN.{length}
 use lib.Dec.{eqb}
 use Rattle.rules.specs.declared.Answer.{Answer}
-use Rattle.rules.specs.declared.Answer.TheVariants.{Refused, Rejected}
+use Rattle.rules.specs.declared.Answer.TheVariants.{Rejected}
 use Rattle.rules.specs.Syntax.{Program}
 use Rattle.rules.specs.Grouping.{group, program, read}
 use Rattle.rules.specs.Checking.{latest, registers}
 use Rattle.rules.specs.Calls.{errors}
 use Rattle.rules.specs.Order.{order_of}
-use Rattle.rules.specs.Answers.{Result, expand_read, expand}
+use Rattle.rules.specs.Answers.{Result, expand_read}
 use Rattle.theorems.specs.Promises.{order_callees_first}
 use Rattle.views.specs.View.{program_in}
 use Rattle.views.specs.Bridge.{bridge}
 use Rattle.views.specs.Limits.{gates_few}
 use Rattle.tables.specs.Tables.{reg_in}
-use Rattle.output.specs.declared.Sink.{Sink}
+use Rattle.output.specs.declared.Writer.{Writer}
 use Rattle.graph.specs.Rows.{listed}
-use Rattle.collect.specs.declared.RegsRead.{RegsRead}
+use Rattle.collect.specs.declared.Regs.{Regs}
 use Rattle.collect.specs.Collected.{RegsDone}
-use Rattle.image.specs.declared.Image.{Image}
-use Rattle.image.specs.declared.Verdict.{Verdict}
-use Rattle.image.specs.declared.Verdict.TheVariants as verdict
-use Rattle.image.specs.Whole.{Reads}
-use Rattle.checks.specs.Served.{Gives, Serves, served_refused, served_read}
+use Rattle.checks.specs.Served.{Serves}
 use Rattle.orders.specs.declared.Ready.{Ready}
 use Rattle.orders.specs.Listing.{Readied, sound}
 use Rattle.expand.specs.Expanding.{Of, Answers}
@@ -42,12 +38,12 @@ module _ (img o : List ℕ) (r : Ready) (w : Readied img r) where
         record { answer = rw m refl; buffer = rw m refl };
   }
 
-  module _ (z : r.errors ≤ 0) (none none' : List ℕ) (s : Sink) (t : RegsRead) (d : RegsDone img none s none' t) (row : List ℕ) (er : row ≡ listed r.order) where
-    regs_are : (p : Program) → read img ≡ program p → (x : ℕ) → latest (registers p.decls) x ≡ reg_in t.regs.rows x
+  module _ (z : r.errors ≤ 0) (w₀ w₁ : Writer) (t : Regs) (d : RegsDone img w₀ w₁ t) (row : List ℕ) (er : row ≡ listed r.order) where
+    regs_are : (p : Program) → read img ≡ program p → (x : ℕ) → latest (registers p.decls) x ≡ reg_in t.rows x
     unfolding program_in group
     regs_are p e x = ap (λ (q : Program). latest (registers q.decls) x) (bridge img p e) ∙ d.finds.finds x
 
-    of : (p : Program) → read img ≡ program p → Of img r.heads t.regs.rows row p
+    of : (p : Program) → read img ≡ program p → Of img r.heads t.rows row p
     of p e =
         let clear = sound img r w z p e in
         let same : row ≡ order_of p = er ∙ w.order' p e in
@@ -61,21 +57,9 @@ module _ (img o : List ℕ) (r : Ready) (w : Readied img r) where
           room = omega (arith, long, (order_callees_first p clear).count, gates_few img p e);
         }
 
-    pub run_laid : (a : Answer) (o' : List ℕ) → Answers img r.heads t.regs.rows row o a o' → Serves expand_read img o o' a
+    pub run_laid : (a : Answer) (o' : List ℕ) → Answers img r.heads t.rows row o a o' → Serves expand_read img o o' a
     run_laid a o' k = record {
       gives = λ p e.
           let q = k p (of p e) in
           record { answer = sym (ap (λ (x : Result). x.answer) q); buffer = sym (ap (λ (x : Result). x.buffer) q) };
     }
-
--- ---- the whole service
-
-pub expand_refused : (img o : List ℕ) (i : Image) → Reads img i → (v : Verdict) → v ≡ i.verdict → (k at : ℕ) → v ≡ verdict.Refused k at → Gives (expand img o) o (Refused k at)
-unfolding expand expand_read
-expand_refused img o i r v ev = served_refused expand_read img o i r v ev (λ k at. refl)
-
-pub expand_done : (img o : List ℕ) (i : Image) → Reads img i → (v : Verdict) → v ≡ i.verdict → v ≡ verdict.Read → (o' : List ℕ) (a : Answer) → Serves expand_read img o o' a → Gives (expand img o) o' a
-unfolding expand
-expand_done img o i r v ev = served_read expand_read img o i r v ev
-
-pub ruleset expand_laws = (expand_refused, expand_done)

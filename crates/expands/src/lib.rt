@@ -2,46 +2,44 @@
 #![tactic(auto)]
 
 ghost use Rattle.rules.specs.Answers.{expand_read, expand as expanded};
-ghost use Rattle.checks.specs.Served.{Gives, Serves};
+ghost use Rattle.checks.specs.Served.{Gives, expand_refusal};
 
+use checks::Service;
 use collect::collect_regs;
 use expand::expand_admitted;
-use image::{Verdict, read_image};
-use orders::{front, place_gates};
-use output::Sink;
+use orders::place_gates;
+use output::Writer;
 use rules::Answer;
+use tables::Scope;
 
-// The answer for an image that is read.
-fn expand_read(image: &[u8], out: &mut [u8]) -> Answer
-    ensures { Serves expand_read image.now out.old out.new result }
-{
-    let ready = place_gates(image);
-    if 0 < ready.errors {
-        return Answer::Rejected;
+// Expand: the entries of the run.
+pub struct Expander;
+
+impl Service for Expander {
+    ghost answers = { expand_read };
+
+    fn answer(image: &[u8], out: &mut [u8]) -> Answer {
+        let ready = place_gates(image);
+        if 0 < ready.errors {
+            return Answer::Rejected;
+        }
+        // its registers again: without errors nothing is told
+        let regs = collect_regs(&mut Writer::on(&mut []), image);
+        let scope = Scope {
+            gates: &ready.heads,
+            regs: &regs.rows,
+        };
+        let row = ready.order.as_slice();
+        expand_admitted(image, scope, row, out)
     }
-    // its registers again: without errors nothing is told
-    let mut none = [0u8; 0];
-    let t = collect_regs(&mut none, Sink { items: 0, bytes: 0 }, image);
-    let regs = t.regs;
-    let rows = regs.rows;
-    let heads = ready.heads;
-    let placed = ready.order;
-    let list = placed.gates;
-    let row = front(&list, placed.count);
-    expand_admitted(image, &heads, &rows, row, out)
+
+    ghost refusal = { expand_refusal };
 }
 
 // Expands an image of any bytes.
+#[tactic(auto, unfolding(rules::specs::Answers::expand))]
 pub fn expand(image: &[u8], out: &mut [u8]) -> Answer
     ensures { Gives (expanded image.now out.old) out.new result }
 {
-    let read = read_image(image);
-    let v = read.verdict;
-    match v {
-        Verdict::Refused { number, offset } => Answer::Refused {
-            number: number,
-            offset: offset,
-        },
-        Verdict::Read => expand_read(image, out),
-    }
+    Expander::serve(image, out)
 }

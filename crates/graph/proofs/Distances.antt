@@ -25,14 +25,7 @@ use Rattle.graph.proofs.Groups.{linked_within, linked_calls, calls_linked}
 
 -- ---- one round, gate by gate
 
-module _ (k : ℕ) (t : List ℕ) (near : Set) (d : List ℕ) where
-  pub spread_none : length d ≡ 128 → Spread k t near 0 d d near
-  spread_none e = record {
-    size = e;
-    set = λ v h. let q : 0 ≤ v = omega arith in rw (le-ltb v 0 q) (sym (or-false (holds near v)));
-    row = λ v. let q : 0 ≤ v = omega arith in rw (le-ltb v 0 q) refl;
-  }
-
+module _ (k : ℕ) (t : List Set) (near : Set) (d : List ℕ) where
   module _ (i : ℕ) (small : i < 128) (d₁ : List ℕ) (r₁ : Set) (S : Spread k t near i d d₁ r₁) where
     -- gate i leaves d₂ and r₂, and all others as they were
     turn : (d₂ : List ℕ) (r₂ : Set) → length d₂ ≡ 128 → ((v : ℕ) → v ≢ i → get_or d₂ v 0 ≡ get_or d₁ v 0) → ((v : ℕ) → v < 128 → v ≢ i → holds r₂ v ≡ holds r₁ v)
@@ -76,9 +69,6 @@ module _ (k : ℕ) (t : List ℕ) (near : Set) (d : List ℕ) where
             (λ v h n. g v h ∙ (rw (ne_eqb i v (λ x. n (sym x))) refl)) (g i small ∙ (rw (eq-eqb i i refl, sym p ∙ far, touch ∙ e) refl))
             (get_or-set_same d₁ i (k + 1) 0 (omega (arith, S.size)) ∙ (rw (sym p ∙ far, touch ∙ e) refl))
 
-pub spread_all : (k : ℕ) (t : List ℕ) (near : Set) (i n : ℕ) (d d₁ : List ℕ) (r : Set) → i ≤ n → n ≤ i → Spread k t near i d d₁ r → Spread k t near n d d₁ r
-spread_all k t near i n d d₁ r h l S = let q : i ≡ n = omega arith in subst (λ (x : ℕ). Spread k t near x d d₁ r) q S
-
 -- ---- distances
 
 module _ (n : ℕ) (E : ℕ → ℕ → Bool) (within : Within n E) (g : ℕ) where
@@ -97,7 +87,7 @@ pub record Near (n : ℕ) (E : ℕ → ℕ → Bool) (g k : ℕ) (s : Set) (d : 
   pub row : Distances n E g k d
 
 pub near_start : (n : ℕ) (E : ℕ → ℕ → Bool) → Within n E → (g : ℕ) (s : Set) (d : List ℕ) → n ≤ 128 → g < n → d ≡ replicate 128 0
-    → ((v : ℕ) → v < 128 → holds s v ≡ (eqb g v || holds (record { low = 0; high = 0 }) v)) → Near n E g 1 s (set d g 1)
+    → ((v : ℕ) → v < 128 → holds s v ≡ (eqb g v || holds (record { gates = 0 }) v)) → Near n E g 1 s (set d g 1)
 near_start n E within g s d small h e f = record { size = length-set d g 1 ∙ size; set = λ u b. f u b ∙ (rw (holds_empty u) (or-false (eqb g u) ∙ held u b)); row = row }
   where
     size : length d ≡ 128
@@ -126,7 +116,7 @@ near_start n E within g s d small h e f = record { size = length-set d g 1 ∙ s
       | no q ↦ rw (away u q) (get_or-set_other d g u 1 0 q ∙ ap (λ (l : List ℕ). get_or l u 0) e ∙ get_or-replicate 128 u 0 0 (omega arith))
     ]
 
-module _ (n : ℕ) (t : List ℕ) (small : n ≤ 128) (g k : ℕ) (s : Set) (d : List ℕ) (top : k ≤ n) (N : Near n (linked n t) g k s d) where
+module _ (n : ℕ) (t : List Set) (small : n ≤ 128) (g k : ℕ) (s : Set) (d : List ℕ) (top : k ≤ n) (N : Near n (linked n t) g k s d) where
   abbrev E : ℕ → ℕ → Bool
   E = linked n t
 
@@ -221,12 +211,12 @@ module _ (n : ℕ) (t : List ℕ) (small : n ≤ 128) (g k : ℕ) (s : Set) (d :
             let x : ¬ (suc (D p.0) < k) = unmet p.0 p.1 in
             omega arith
 
-  pub lap_end : n ≤ k → 1 ≤ k → ((w : ℕ) → T (E g w) → suc (D w) < k → ⊥) → Lapped n E g k d
+  pub lap_end : n ≤ k → 1 ≤ k → ((w : ℕ) → T (E g w) → suc (D w) < k → ⊥) → Lapped n E g n d
   unfolding reaches any
   lap_end end low unmet = record {
-    low = low;
-    high = top;
-    row = N.row;
+    low = omega arith;
+    high = omega arith;
+    row = let e : k ≡ n = omega arith in subst (λ (x : ℕ). Distances n E g x d) e N.row;
     long = λ r.
         let q : ℕ → Bool = λ j. walks n E (suc j) g g in
         let h : first n q < n = ltb→lt (first n q) n r in

@@ -1,7 +1,7 @@
 -- Who reaches whom, and the lowest gates of the groups.
 use mathlib.Core.Path.{◌≡◌, refl, sym, ap, ap₂, ◌∙◌, subst}
 use mathlib.Core.Logic.{◌⊎◌, inl, inr, ⊎_elim}
-use mathlib.Core.Bool.{Bool, true, false, not, ◌&&◌, ◌||◌, or-false, and-false}
+use mathlib.Core.Bool.{Bool, true, false, not, ◌&&◌, ◌||◌, or-false}
 use mathlib.Core.List.{List, [], ◌∷◌, ◌++◌, append_assoc, append-nil}
 use Prim.Native.Nat.{ℕ, zero, suc, ◌+◌, ◌-◌, ◌≤◌, ◌<◌}
 use native.Mathlib.Nat.{not-suc-le-zero}
@@ -9,11 +9,10 @@ use native.Mathlib.Decide.{dec_lt, ℕ_discrete}
 use native.Mathlib.Numerals.{add-one}
 use native.Mathlib.Omega.{arith}
 use borrow.Author.Tests.{lt-ltb}
-use borrow.Author.Count.{below_more}
 use lib.Dec.{T, ltb, ltb→lt}
-use lib.ListN.{length, set, take, length-set}
-use lib.Seq.{take-suc-set}
-use Rattle.rules.specs.Basics.{pick}
+use lib.ListN.{length, set, length-set}
+use lib.Seq.{get_or-set_other}
+use Rattle.rules.specs.Basics.{pick, any}
 use Rattle.rules.specs.Graph.{reaches, leads, those, leaders}
 use Rattle.theorems.specs.Words.{Walk, Reach, Within}
 use Rattle.theorems.specs.Search.{and_T, T_and, or_T, or_left, or_right}
@@ -21,12 +20,13 @@ use Rattle.theorems.specs.Walks.{reach_trans}
 use Rattle.theorems.specs.Groups.{reaches_reach, reach_reaches}
 use Rattle.graph.specs.declared.sets.Set.{Set}
 use Rattle.graph.specs.Sets.{holds}
-use Rattle.graph.specs.Rows.{row_of, calls, linked, RowPut, Passed, Reached, lowest_by}
-use Rattle.graph.proofs.Tests.{same_test, T_true, T_false, any_yes, any_no, any_same}
+use Rattle.graph.specs.Rows.{row_of, calls, linked, Passed, Reached, lowest_by}
+use Rattle.graph.proofs.Tests.{same_test, any_same}
+use Rattle.graph.proofs.Rows.{row_put, calls_below}
 
 -- ---- the graph of the first n gates
 
-module _ (n : ℕ) (t : List ℕ) where
+module _ (n : ℕ) (t : List Set) where
   pub linked_in : (u w : ℕ) → u < n → w < n → linked n t u w ≡ calls t u w
   unfolding linked
   linked_in u w h k = rw (lt-ltb u n h, lt-ltb w n k) refl
@@ -46,32 +46,26 @@ module _ (n : ℕ) (t : List ℕ) where
 
 -- ---- one gate passed through
 
-pub passed_all : (k i n : ℕ) (t t₁ : List ℕ) → i ≤ n → n ≤ i → Passed k i t t₁ → Passed k n t t₁
-passed_all k i n t t₁ h l P = let q : i ≡ n = omega arith in subst (λ (x : ℕ). Passed k x t t₁) q P
-
-pub passed_none : (k : ℕ) (t : List ℕ) → length t ≡ 256 → Passed k 0 t t
-passed_none k t e = record { size = e; done = λ a h. absurd (not-suc-le-zero h); kept = λ a h. refl }
-
-module _ (k i : ℕ) (t t₁ : List ℕ) (P : Passed k i t t₁) (s : Set) (e : s ≡ row_of t₁ i) where
+module _ (k i : ℕ) (t t₁ : List Set) (P : Passed k i t t₁) (s : Set) (e : s ≡ row_of t₁ i) where
   was : holds s k ≡ calls t i k
   unfolding calls
   was = ap (λ (z : Set). holds z k) (e ∙ P.kept i (omega arith))
 
   pub pass_on : (b : Bool) → b ≡ holds s k → b ≡ true → (through : Set) → through ≡ row_of t k → (r : Set) → ((x : ℕ) → holds r x ≡ (holds s x || holds through x))
-      → (t₂ : List ℕ) → RowPut i r t₁ t₂ → Passed k (i + 1) t t₂
+      → i < 128 → Passed k (i + 1) t (set t₁ i r)
   unfolding calls
-  pass_on b q on through f r g t₂ R = record {
-    size = R.size;
+  pass_on b q on through f r g small = record {
+    size = length-set t₁ i r ∙ P.size;
     done = λ a h x. elim (ℕ_discrete a i) [
       | yes z ↦
-          let row : row_of t₂ a ≡ r = ap (row_of t₂) z ∙ R.same in
+          let row : row_of (set t₁ i r) a ≡ r = ap (row_of (set t₁ i r)) z ∙ row_put t₁ P.size i r small in
           let old : row_of t₁ i ≡ row_of t a = P.kept i (omega arith) ∙ ap (row_of t) (sym z) in
           let hit : holds (row_of t a) k ≡ true = ap (λ (y : Set). holds y k) (sym (e ∙ old)) ∙ sym q ∙ on in
           ap (λ (y : Set). holds y x) row ∙ g x ∙ ap₂ (λ (y z : Set). holds y x || holds z x) (e ∙ old) f
           ∙ ap (λ (y : Bool). holds (row_of t a) x || (y && holds (row_of t k) x)) (sym hit)
-      | no z ↦ ap (λ (y : Set). holds y x) (R.other a z) ∙ P.done a (omega arith) x
+      | no z ↦ ap (λ (y : Set). holds y x) (get_or-set_other t₁ i a r (record { gates = 0 }) z) ∙ P.done a (omega arith) x
     ];
-    kept = λ a h. R.other a (omega arith) ∙ P.kept a (omega arith);
+    kept = λ a h. get_or-set_other t₁ i a r (record { gates = 0 }) (omega arith) ∙ P.kept a (omega arith);
   }
 
   pub pass_over : (b : Bool) → b ≡ holds s k → b ≡ false → Passed k (i + 1) t t₁
@@ -91,13 +85,13 @@ module _ (k i : ℕ) (t t₁ : List ℕ) (P : Passed k i t t₁) (s : Set) (e : 
 -- ---- all gates passed through
 
 -- what t holds once the gates below k may be passed through
-pub record Closing (n : ℕ) (E : ℕ → ℕ → Bool) (k : ℕ) (t : List ℕ) : Type 0 where
-  pub size : length t ≡ 256
+pub record Closing (n : ℕ) (E : ℕ → ℕ → Bool) (k : ℕ) (t : List Set) : Type 0 where
+  pub size : length t ≡ 128
   pub edge : (i j : ℕ) → T (E i j) → T (calls t i j)
   pub sound : (i j : ℕ) → i < n → j < n → T (calls t i j) → Reach E i j
   pub closed : (p i j : ℕ) → p < k → i < n → j < n → T (calls t i p) → T (calls t p j) → T (calls t i j)
 
-pub closing_none : (n : ℕ) (t : List ℕ) → length t ≡ 256 → Closing n (linked n t) 0 t
+pub closing_none : (n : ℕ) (t : List Set) → length t ≡ 128 → Closing n (linked n t) 0 t
 closing_none n t e = record {
   size = e;
   edge = linked_calls n t;
@@ -105,7 +99,7 @@ closing_none n t e = record {
   closed = λ p i j l. absurd (not-suc-le-zero l);
 }
 
-pub closing_more : (n : ℕ) (E : ℕ → ℕ → Bool) → Within n E → (k : ℕ) (t t' : List ℕ) → k < n → Closing n E k t → Passed k n t t' → Closing n E (k + 1) t'
+pub closing_more : (n : ℕ) (E : ℕ → ℕ → Bool) → Within n E → (k : ℕ) (t t' : List Set) → k < n → Closing n E k t → Passed k n t t' → Closing n E (k + 1) t'
 closing_more n E within k t t' bk C P = record {
   size = P.size;
   edge = λ i j o. keep i j (within i j o).0 (C.edge i j o);
@@ -137,7 +131,7 @@ closing_more n E within k t t' bk C P = record {
           (⊎_elim (λ a. subst (λ (q : ℕ). T (calls t q j)) e a) (λ a. a.1) (split p j (omega arith) o))
     ]
 
-module _ (n : ℕ) (E : ℕ → ℕ → Bool) (within : Within n E) (k : ℕ) (t : List ℕ) (end : n ≤ k) (C : Closing n E k t) where
+module _ (n : ℕ) (E : ℕ → ℕ → Bool) (within : Within n E) (k : ℕ) (t : List Set) (end : n ≤ k) (C : Closing n E k t) where
   far : (m i j : ℕ) → Walk E (suc m) i j → T (calls t i j) × (j < n)
   far zero i j p = (subst (λ (x : ℕ). T (calls t i x)) p.2 (C.edge i p.0 p.1), subst (λ (x : ℕ). x < n) p.2 (within i p.0 p.1).1)
   far (suc m) i j p =
@@ -155,43 +149,26 @@ module _ (n : ℕ) (E : ℕ → ℕ → Bool) (within : Within n E) (k : ℕ) (t
 -- ---- the lowest
 
 -- h is in g's group
-abbrev pub joins : List ℕ → ℕ → ℕ → Bool
+abbrev pub joins : List Set → ℕ → ℕ → Bool
 joins t g h = calls t g h && calls t h g
 
-module _ (t : List ℕ) (g : ℕ) (s : Set) (e : s ≡ row_of t g) where
-  abbrev lower : ℕ → Bool
-  lower = joins t g
+module _ (t : List Set) (size : length t ≡ 128) (g h : ℕ) (a : Bool) (p : a ≡ (ltb g 128 && calls t g h)) where
+  pub joins_off : a ≡ false → a ≡ joins t g h
+  joins_off q = q ∙ (rw (sym (p ∙ calls_below t size g h) ∙ q) refl)
 
-  same_row : (h : ℕ) → holds s h ≡ calls t g h
-  unfolding calls
-  same_row h = ap (λ (x : Set). holds x h) e
+  pub joins_on : a ≡ true → (b : Bool) → b ≡ (ltb h 128 && calls t h g) → b ≡ joins t g h
+  joins_on q b f = let z : joins t g h ≡ calls t h g = rw (sym (p ∙ calls_below t size g h) ∙ q) refl in f ∙ calls_below t size h g ∙ sym z
 
-  module _ (a : Bool) (p : a ≡ holds s g) where
-    pub leads_off : a ≡ false → false ≡ lowest_by t g
-    unfolding lowest_by
-    leads_off q = rw (← same_row g, ← p, q) refl
+module _ (t : List Set) (g : ℕ) (size : length t ≡ 128) (a : Bool) (p : a ≡ (ltb g 128 && calls t g g)) where
+  pub leads_off : a ≡ false → a ≡ lowest_by t g
+  unfolding lowest_by
+  leads_off q = q ∙ (rw (sym (p ∙ calls_below t size g g) ∙ q) refl)
 
-    pub leads_lower : (h : ℕ) → h < g → (b : Bool) → b ≡ holds s h → b ≡ true → (r : Set) → r ≡ row_of t h → (c : Bool) → c ≡ holds r g → c ≡ true → false ≡ lowest_by t g
-    unfolding lowest_by calls
-    leads_lower h l b x y r f c z w =
-        let hit : T (lower h) = T_and (calls t g h) (calls t h g) (T_true (calls t g h) (sym (same_row h) ∙ sym x ∙ y)) (T_true (calls t h g) (ap (λ (v : Set). holds v g) (sym f) ∙ sym z ∙ w)) in
-        rw (any_yes g lower h l hit) (sym (and-false (calls t g g)))
+  pub leads_on : a ≡ true → (r : Bool) → r ≡ any g (joins t g) → not r ≡ lowest_by t g
+  unfolding lowest_by
+  leads_on q r f = rw (sym (p ∙ calls_below t size g g) ∙ q, f) refl
 
-    pub leads_on : a ≡ true → (h : ℕ) → g ≤ h → ((j : ℕ) → j < h → T (lower j) → ⊥) → true ≡ lowest_by t g
-    unfolding lowest_by
-    leads_on q h l none = rw (any_no g lower (λ j m. none j (omega arith)), ← same_row g, ← p, q) refl
-
-  -- one gate more that is not in the group: it does not reach g, or g does not reach it
-  module _ (h : ℕ) (none : (j : ℕ) → j < h → T (lower j) → ⊥) where
-    module _ (b : Bool) (p : b ≡ holds s h) where
-      pub apart_from : b ≡ false → (j : ℕ) → j < h + 1 → T (lower j) → ⊥
-      apart_from q = below_more (λ j. T (lower j) → ⊥) h none (λ o. T_false (calls t g h) (sym (same_row h) ∙ sym p ∙ q) (and_T (calls t g h) (calls t h g) o).0)
-
-      pub apart_to : (r : Set) → r ≡ row_of t h → (c : Bool) → c ≡ holds r g → c ≡ false → (j : ℕ) → j < h + 1 → T (lower j) → ⊥
-      unfolding calls
-      apart_to r f c z w = below_more (λ j. T (lower j) → ⊥) h none (λ o. T_false (calls t h g) (ap (λ (x : Set). holds x g) (sym f) ∙ sym z ∙ w) (and_T (calls t g h) (calls t h g) o).1)
-
-pub leads_same : (n : ℕ) (E : ℕ → ℕ → Bool) (t : List ℕ) → Reached n E t → (g : ℕ) → g < n → lowest_by t g ≡ leads n E g
+pub leads_same : (n : ℕ) (E : ℕ → ℕ → Bool) (t : List Set) → Reached n E t → (g : ℕ) → g < n → lowest_by t g ≡ leads n E g
 unfolding lowest_by leads
 leads_same n E t R g h =
     ap₂ (λ (x y : Bool). x && not y) (R.tells g g h h)
@@ -202,14 +179,13 @@ leads_same n E t R g h =
 
 -- u gates looked at, m of them listed
 pub record Leading (n : ℕ) (E : ℕ → ℕ → Bool) (u m : ℕ) (list : List ℕ) : Type 0 where
-  pub size : length list ≡ 128
   pub few : m ≤ u
-  pub rest : take m list ++ those (n - u) u (leads n E) ≡ leaders n E
+  pub rest : list ++ those (n - u) u (leads n E) ≡ leaders n E
 
 module _ (n : ℕ) (E : ℕ → ℕ → Bool) where
-  pub leading_none : (list : List ℕ) → length list ≡ 128 → Leading n E 0 0 list
+  pub leading_none : (m : ℕ) (list : List ℕ) → m ≡ 0 → list ≡ [] → Leading n E 0 m list
   unfolding leaders
-  leading_none list e = record { size = e; few = omega arith; rest = let q : n - 0 ≡ n = omega arith in ap (λ (k : ℕ). those k 0 (leads n E)) q }
+  leading_none m list z e = record { few = omega arith; rest = let q : n - 0 ≡ n = omega arith in rw e (ap (λ (k : ℕ). those k 0 (leads n E)) q) }
 
   module _ (u m : ℕ) (list : List ℕ) (h : u < n) (L : Leading n E u m list) (b : Bool) (e : b ≡ leads n E u) where
     next : those (n - u) u (leads n E) ≡ pick b (u ∷ those (n - (u + 1)) (u + 1) (leads n E)) (those (n - (u + 1)) (u + 1) (leads n E))
@@ -218,25 +194,23 @@ module _ (n : ℕ) (E : ℕ → ℕ → Bool) where
         let q : n - u ≡ suc (n - (u + 1)) = omega arith in
         ap (λ (k : ℕ). those k u (leads n E)) q ∙ (rw (e, add-one u) refl)
 
-    pub leading_yes : b ≡ true → n ≤ 128 → Leading n E (u + 1) (m + 1) (set list m u)
-    leading_yes q small = record {
-      size = length-set list m u ∙ L.size;
+    pub leading_yes : b ≡ true → (m₁ : ℕ) (list₁ : List ℕ) → m₁ ≡ m + 1 → list₁ ≡ list ++ (u ∷ []) → Leading n E (u + 1) m₁ list₁
+    leading_yes q m₁ list₁ c f = record {
       few = omega (arith, L.few);
       rest =
-          ap (λ (l : List ℕ). l ++ those (n - (u + 1)) (u + 1) (leads n E)) (ap (λ (k : ℕ). take k (set list m u)) (add-one m) ∙ take-suc-set list m u (omega (arith, L.size, L.few)))
-          ∙ append_assoc (take m list) (u ∷ []) (those (n - (u + 1)) (u + 1) (leads n E))
-          ∙ ap (λ (l : List ℕ). take m list ++ l) (sym (next ∙ (rw q refl))) ∙ L.rest;
+          ap (λ (l : List ℕ). l ++ those (n - (u + 1)) (u + 1) (leads n E)) f
+          ∙ append_assoc list (u ∷ []) (those (n - (u + 1)) (u + 1) (leads n E))
+          ∙ ap (λ (l : List ℕ). list ++ l) (sym (next ∙ (rw q refl))) ∙ L.rest;
     }
 
     pub leading_no : b ≡ false → Leading n E (u + 1) m list
     leading_no q = record {
-      size = L.size;
       few = omega (arith, L.few);
-      rest = ap (λ (l : List ℕ). take m list ++ l) (sym (next ∙ (rw q refl))) ∙ L.rest;
+      rest = ap (λ (l : List ℕ). list ++ l) (sym (next ∙ (rw q refl))) ∙ L.rest;
     }
 
-  pub leading_all : (u m : ℕ) (list : List ℕ) → n ≤ u → Leading n E u m list → take m list ≡ leaders n E
+  pub leading_all : (u m : ℕ) (list : List ℕ) → n ≤ u → Leading n E u m list → list ≡ leaders n E
   unfolding those
   leading_all u m list h L =
       let q : n - u ≡ 0 = omega arith in
-      sym (append-nil (take m list)) ∙ ap (λ (k : ℕ). take m list ++ those k u (leads n E)) (sym q) ∙ L.rest
+      sym (append-nil list) ∙ ap (λ (k : ℕ). list ++ those k u (leads n E)) (sym q) ∙ L.rest

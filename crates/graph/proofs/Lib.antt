@@ -1,6 +1,7 @@
 pub mod Tests
 pub mod Digits
 pub mod Holding
+pub mod Searches
 pub mod Rows
 pub mod Groups
 pub mod Distances

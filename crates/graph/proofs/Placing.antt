@@ -6,21 +6,21 @@ use mathlib.Core.List.{List, [], ◌∷◌, ◌++◌}
 use Prim.Native.Nat.{ℕ, suc, ◌+◌, ◌-◌, ◌≤◌, ◌<◌}
 use native.Mathlib.Nat.{not-suc-le-zero}
 use native.Mathlib.Decide.{dec_lt, ℕ_discrete}
-use native.Mathlib.Numerals.{add-one}
 use native.Mathlib.Omega.{arith}
+use Rattle.std.proofs.Common.{Some, None}
 use borrow.Author.Tests.{lt-ltb, le-ltb, eq-eqb, ne_eqb}
-use borrow.Author.Count.{below_more}
 use lib.Dec.{T, eqb, ltb, eqb→eq, T_not}
-use lib.ListN.{length, set, take, length-set, length-append, get_or-append}
-use lib.Seq.{take-suc-set, get_or_at}
+use lib.ListN.{length, length-append, get_or-append}
+use lib.Seq.{get_or_at}
 use Rattle.rules.specs.Basics.{pick, first, any}
 use Rattle.rules.specs.Order.{has, ready, order_from, order}
 use Rattle.theorems.specs.Search.{and_T, T_and, or_T, or_left, or_right, any_some, any_of}
 use Rattle.theorems.specs.Orders.{pos, at_pos, at_has}
 use Rattle.graph.specs.declared.sets.Set.{Set}
 use Rattle.graph.specs.Sets.{holds}
-use Rattle.graph.specs.Rows.{row_of, calls, linked, Marks, ready_by}
-use Rattle.graph.proofs.Tests.{same_test, T_true, T_false, is_false, ltb_more, search_hit, first_same}
+use Rattle.graph.specs.Rows.{row_of, calls, linked, Marks, below, ready_by}
+use Rattle.graph.proofs.Tests.{same_test, T_true, is_false, ltb_more, first_same}
+use Rattle.graph.proofs.Searches.{below_is, below_end}
 use Rattle.graph.proofs.Holding.{holds_empty}
 use Rattle.graph.proofs.Groups.{linked_calls, calls_linked}
 
@@ -30,7 +30,7 @@ use Rattle.graph.proofs.Groups.{linked_calls, calls_linked}
 abbrev pub Beyond : ℕ → ℕ → Set → Type 0
 Beyond n u s = (v : ℕ) → v < 128 → holds s v ≡ (not (ltb v n) && ltb v u)
 
-pub beyond_none : (n : ℕ) → Beyond n n (record { low = 0; high = 0 })
+pub beyond_none : (n : ℕ) → Beyond n n (record { gates = 0 })
 beyond_none n v h = holds_empty v ∙ (elim (dec_lt v n) [ yes a ↦ rw (lt-ltb v n a) refl | no a ↦ rw (le-ltb v n (omega arith)) refl ])
 
 pub beyond_more : (n u : ℕ) (s r : Set) → n ≤ u → Beyond n u s → ((v : ℕ) → v < 128 → holds r v ≡ (eqb u v || holds s v)) → Beyond n (u + 1) r
@@ -74,7 +74,7 @@ marks_more n l u s r M f = record { placed = λ v h. f v h ∙ ap (λ (x : Bool)
 
 -- ---- the gates that are ready
 
-module _ (n : ℕ) (t l : List ℕ) (s : Set) (small : n ≤ 128) (M : Marks n l s) where
+module _ (n : ℕ) (t : List Set) (l : List ℕ) (s : Set) (small : n ≤ 128) (M : Marks n l s) where
   held : (v : ℕ) → v < n → holds s v ≡ has l v
   held v h = M.placed v (omega arith) ∙ (rw (lt-ltb v n h) refl)
 
@@ -103,59 +103,52 @@ module _ (n : ℕ) (t l : List ℕ) (s : Set) (small : n ≤ 128) (M : Marks n l
   lowest_same : first n (ready_by t s) ≡ first n (ready n (linked n t) l)
   lowest_same = first_same n (ready_by t s) (ready n (linked n t) l) ready_same
 
--- the search for the lowest
-module _ (n : ℕ) (t : List ℕ) (s : Set) (g : ℕ) (h : g < n) (none : (j : ℕ) → j < g → T (ready_by t s j) → ⊥) (b : Bool) (p : b ≡ holds s g) where
-  pub ready_placed : b ≡ true → (j : ℕ) → j < g + 1 → T (ready_by t s j) → ⊥
+-- by the two tests
+module _ (t : List Set) (s : Set) (g : ℕ) (b : Bool) (p : b ≡ holds s g) where
+  pub ready_off : b ≡ true → not b ≡ ready_by t s g
   unfolding ready_by
-  ready_placed e = below_more (λ j. T (ready_by t s j) → ⊥) g none (rw (← p, e) (λ o. o))
+  ready_off e = rw (← p, e) refl
 
-  module _ (off : b ≡ false) (r : Set) (f : r ≡ row_of t g) (c : Bool) (q : c ≡ not (any 128 (λ w. holds r w && not (holds s w)))) where
-    ready_is : ready_by t s g ≡ c
-    unfolding ready_by calls
-    ready_is = (rw (← p, off) refl) ∙ sym (q ∙ ap (λ (x : Set). not (any 128 (λ w. holds x w && not (holds s w)))) f)
-
-    pub ready_waits : c ≡ false → (j : ℕ) → j < g + 1 → T (ready_by t s j) → ⊥
-    ready_waits e = below_more (λ j. T (ready_by t s j) → ⊥) g none (T_false (ready_by t s g) (ready_is ∙ e))
-
-    pub ready_found : c ≡ true → g ≡ first n (ready_by t s)
-    ready_found e = search_hit n (ready_by t s) g h none (T_true (ready_by t s g) (ready_is ∙ e))
+  pub ready_on : b ≡ false → (r : Set) → r ≡ row_of t g → (c : Bool) → c ≡ not (any 128 (λ w. holds r w && not (holds s w))) → c ≡ ready_by t s g
+  unfolding ready_by calls
+  ready_on e r f c q =
+      let z : ready_by t s g ≡ not (any 128 (λ w. holds (row_of t g) w && not (holds s w))) = rw (← p, e) refl in
+      q ∙ ap (λ (x : Set). not (any 128 (λ w. holds x w && not (holds s w)))) f ∙ sym z
 
 -- ---- the places
 
 -- m gates are placed
 pub record Ordering (n : ℕ) (E : ℕ → ℕ → Bool) (list : List ℕ) (s : Set) (m : ℕ) : Type 0 where
-  pub size : length list ≡ 128
-  pub marks : Marks n (take m list) s
-  pub rest : order_from n E (n - m) (take m list) ≡ order n E
+  pub marks : Marks n list s
+  pub rest : order_from n E (n - m) list ≡ order n E
 
-pub ordering_none : (n : ℕ) (E : ℕ → ℕ → Bool) (list : List ℕ) (s : Set) → length list ≡ 128 → Marks n [] s → Ordering n E list s 0
+pub ordering_none : (n : ℕ) (E : ℕ → ℕ → Bool) (list : List ℕ) (s : Set) → list ≡ [] → Marks n [] s → Ordering n E list s 0
 unfolding order
-ordering_none n E list s e M = record { size = e; marks = M; rest = let q : n - 0 ≡ n = omega arith in ap (λ (k : ℕ). order_from n E k []) q }
+ordering_none n E list s e M = record { marks = rw e M; rest = let q : n - 0 ≡ n = omega arith in rw e (ap (λ (k : ℕ). order_from n E k []) q) }
 
-module _ (n : ℕ) (t : List ℕ) (small : n ≤ 128) (list : List ℕ) (s : Set) (m : ℕ) (h : m < n) (O : Ordering n (linked n t) list s m) (u : ℕ) (e : u ≡ first n (ready_by t s)) where
-  ready_next : u ≡ first n (ready n (linked n t) (take m list))
-  ready_next = e ∙ lowest_same n t (take m list) s small O.marks
+module _ (n : ℕ) (t : List Set) (small : n ≤ 128) (list : List ℕ) (s : Set) (m : ℕ) (h : m < n) (O : Ordering n (linked n t) list s m) where
+  abbrev found : ℕ
+  found = first n (ready_by t s)
 
-  next : order_from n (linked n t) (n - m) (take m list) ≡ pick (ltb u n) (order_from n (linked n t) (n - (m + 1)) (take m list ++ (u ∷ []))) (take m list)
+  next : order_from n (linked n t) (n - m) list ≡ pick (ltb found n) (order_from n (linked n t) (n - (m + 1)) (list ++ (found ∷ []))) list
   unfolding order_from
   next =
       let q : n - m ≡ suc (n - (m + 1)) = omega arith in
-      ap (λ (k : ℕ). order_from n (linked n t) k (take m list)) q
-      ∙ ap (λ (x : ℕ). pick (ltb x n) (order_from n (linked n t) (n - (m + 1)) (take m list ++ (x ∷ []))) (take m list)) (sym ready_next)
+      ap (λ (k : ℕ). order_from n (linked n t) k list) q
+      ∙ ap (λ (x : ℕ). pick (ltb x n) (order_from n (linked n t) (n - (m + 1)) (list ++ (x ∷ []))) list) (sym (lowest_same n t list s small O.marks))
 
-  pub ordering_more : u < n → (r : Set) → ((v : ℕ) → v < 128 → holds r v ≡ (eqb u v || holds s v)) → Ordering n (linked n t) (set list m u) r (m + 1)
-  ordering_more l r f = record {
-    size = length-set list m u ∙ O.size;
-    marks = rw placed (marks_more n (take m list) u s r O.marks f);
-    rest = ap (order_from n (linked n t) (n - (m + 1))) placed ∙ sym (next ∙ (rw (lt-ltb u n l) refl)) ∙ O.rest;
-  }
-    where
-      placed : take (m + 1) (set list m u) ≡ take m list ++ (u ∷ [])
-      placed = ap (λ (k : ℕ). take k (set list m u)) (add-one m) ∙ take-suc-set list m u (omega (arith, O.size))
+  pub ordering_more : (u : ℕ) → below n (first n (ready_by t s)) ≡ Some u → (list₁ : List ℕ) → list₁ ≡ list ++ (u ∷ []) → (r : Set) → ((v : ℕ) → v < 128 → holds r v ≡ (eqb u v || holds s v))
+      → Ordering n (linked n t) list₁ r (m + 1)
+  ordering_more u e list₁ f r g =
+      let b = below_is n found u e in
+      record {
+        marks = rw f (marks_more n list u s r O.marks g);
+        rest = ap (order_from n (linked n t) (n - (m + 1))) (f ∙ ap (λ (x : ℕ). list ++ (x ∷ [])) (sym b.0)) ∙ sym (next ∙ (rw (lt-ltb found n b.1) refl)) ∙ O.rest;
+      }
 
-  pub ordering_stop : n ≤ u → take m list ≡ order n (linked n t)
-  ordering_stop l = sym (next ∙ (rw (le-ltb u n l) refl)) ∙ O.rest
+  pub ordering_stop : below n (first n (ready_by t s)) ≡ None → list ≡ order n (linked n t)
+  ordering_stop e = sym (next ∙ (rw (le-ltb found n (below_end n found e)) refl)) ∙ O.rest
 
-pub ordering_all : (n : ℕ) (E : ℕ → ℕ → Bool) (list : List ℕ) (s : Set) (m : ℕ) → n ≤ m → Ordering n E list s m → take m list ≡ order n E
+pub ordering_all : (n : ℕ) (E : ℕ → ℕ → Bool) (list : List ℕ) (s : Set) (m : ℕ) → n ≤ m → Ordering n E list s m → list ≡ order n E
 unfolding order_from
-ordering_all n E list s m h O = let q : n - m ≡ 0 = omega arith in ap (λ (k : ℕ). order_from n E k (take m list)) (sym q) ∙ O.rest
+ordering_all n E list s m h O = let q : n - m ≡ 0 = omega arith in ap (λ (k : ℕ). order_from n E k list) (sym q) ∙ O.rest

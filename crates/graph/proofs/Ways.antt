@@ -1,54 +1,53 @@
 -- The cycle, read off the distances.
 use mathlib.Core.Path.{◌≡◌, refl, sym, ap, ◌∙◌, subst}
-use mathlib.Core.Bool.{Bool, true, false, ◌&&◌}
+use mathlib.Core.Bool.{Bool, true, false, ◌&&◌, and-true, and-false}
 use mathlib.Core.List.{List, [], ◌∷◌, ◌++◌, append_assoc, append-nil}
-use Prim.Native.Nat.{ℕ, suc, ◌+◌, ◌-◌, ◌≤◌, ◌<◌}
+use Prim.Native.Nat.{ℕ, suc, ◌-◌, ◌≤◌, ◌<◌}
 use native.Mathlib.Decide.{dec_lt}
-use native.Mathlib.Numerals.{add-one}
 use native.Mathlib.Omega.{arith}
+use Rattle.std.proofs.Common.{Some, None}
 use borrow.Author.Tests.{lt-ltb, le-ltb, eq-eqb}
-use borrow.Author.Count.{below_more}
 use lib.Dec.{T, eqb, ltb, eqb→eq}
-use lib.ListN.{length, get_or, set, take}
-use lib.Seq.{take-suc-set}
+use lib.ListN.{length, get_or}
 use Rattle.rules.specs.Basics.{first}
 use Rattle.rules.specs.Graph.{walks, reaches, way, cycle}
 use Rattle.theorems.specs.Words.{Walk, Within}
 use Rattle.theorems.specs.Search.{and_T, T_and, first_true, first_least, first_hit}
 use Rattle.theorems.specs.Groups.{walks_walk, walk_walks}
-use Rattle.graph.specs.Rows.{calls, linked, dist, Lapped, next_by}
-use Rattle.graph.proofs.Tests.{same_test, T_true, T_false, search_hit, search_end, first_same}
+use Rattle.graph.specs.declared.sets.Set.{Set}
+use Rattle.graph.specs.Rows.{row_of, calls, linked, dist, Lapped, below, next_by}
+use Rattle.graph.proofs.Tests.{same_test, T_true, first_same}
+use Rattle.graph.proofs.Searches.{below_is, below_end}
+use Rattle.graph.proofs.Holding.{holds_out}
+use Rattle.graph.proofs.Rows.{calls_below}
 use Rattle.graph.proofs.Groups.{linked_in}
 use Rattle.graph.proofs.Distances.{dist_walk, dist_le}
 
 -- ---- the lowest next gate
 
-module _ (n : ℕ) (t d : List ℕ) (u k : ℕ) where
-  unfoldable pub next : ℕ → Bool
-  next w = linked n t u w && eqb (get_or d w 0) k
+abbrev pub next : List Set → List ℕ → (u k : ℕ) → ℕ → Bool
+next t d u k w = calls t u w && eqb (get_or d w 0) k
 
-  module _ (w : ℕ) (h : w < n) (none : (j : ℕ) → j < w → T (next j) → ⊥) where
-    pub next_far : (get_or d w 0 ≡ k → ⊥) → (j : ℕ) → j < w + 1 → T (next j) → ⊥
-    unfolding next
-    next_far f = below_more (λ j. T (next j) → ⊥) w none (λ o. f (eqb→eq (get_or d w 0) k (and_T (linked n t u w) (eqb (get_or d w 0) k) o).1))
+-- by the test v of w and what is there; no call is of a gate from 128 on
+module _ (t : List Set) (d : List ℕ) (u k w : ℕ) (v : Bool) where
+  pub next_near : v ≡ eqb (get_or d w 0) k → next t d u k w ≡ (calls t u w && v)
+  next_near e = ap (λ (x : Bool). calls t u w && x) (sym e)
 
-    module _ (b : Bool) (e : b ≡ (ltb u 128 && calls t u w)) (small : n ≤ 128) where
-      pub next_apart : b ≡ false → u < n → (j : ℕ) → j < w + 1 → T (next j) → ⊥
-      unfolding next
-      next_apart off b =
-          let z : u < 128 = omega arith in
-          below_more (λ j. T (next j) → ⊥) w none (λ o. T_false (linked n t u w) (linked_in n t u w b h ∙ sym (rw (lt-ltb u 128 z) at e) ∙ off) (and_T (linked n t u w) (eqb (get_or d w 0) k) o).0)
+  pub next_far : 128 ≤ w → next t d u k w ≡ (calls t u w && v)
+  unfolding calls
+  next_far h = rw (holds_out (row_of t u) w h) refl
 
-      pub next_found : b ≡ true → get_or d w 0 ≡ k → u < n → w ≡ next_by n (linked n t) d u k
-      unfolding next_by next
-      next_found on q b =
-          let z : u < 128 = omega arith in
-          search_hit n next w h none (T_and (linked n t u w) (eqb (get_or d w 0) k)
-          (T_true (linked n t u w) (linked_in n t u w b h ∙ sym (rw (lt-ltb u 128 z) at e) ∙ on)) (T_true (eqb (get_or d w 0) k) (eq-eqb (get_or d w 0) k q)))
+  module _ (e : next t d u k w ≡ (calls t u w && v)) where
+    pub next_off : v ≡ false → v ≡ next t d u k w
+    next_off f = f ∙ sym (e ∙ ap (λ (x : Bool). calls t u w && x) f ∙ and-false (calls t u w))
 
-  pub next_none : (w : ℕ) → n ≤ w → ((j : ℕ) → j < w → T (next j) → ⊥) → n ≡ next_by n (linked n t) d u k
-  unfolding next_by next
-  next_none w h none = search_end n next w h none
+    pub next_on : v ≡ true → length t ≡ 128 → (b : Bool) → b ≡ (ltb u 128 && calls t u w) → b ≡ next t d u k w
+    next_on f size b q = q ∙ calls_below t size u w ∙ sym (e ∙ ap (λ (x : Bool). calls t u w && x) f ∙ and-true (calls t u w))
+
+pub next_same : (n : ℕ) (t : List Set) (d : List ℕ) (u k : ℕ) → u < n → first n (next t d u k) ≡ next_by n (linked n t) d u k
+unfolding next_by
+next_same n t d u k h =
+    first_same n (next t d u k) (λ w. linked n t u w && eqb (get_or d w 0) k) (λ w b. ap (λ (x : Bool). x && eqb (get_or d w 0) k) (sym (linked_in n t u w h b)))
 
 -- ---- the way
 
@@ -58,22 +57,22 @@ pub record Tight (n : ℕ) (E : ℕ → ℕ → Bool) (g u k : ℕ) : Type 0 whe
   pub walk : Walk E (suc k) u g
   pub least : (i : ℕ) → i < k → Walk E (suc i) u g → ⊥
 
--- m gates are listed, and k are to come
-pub record Tracing (n : ℕ) (E : ℕ → ℕ → Bool) (g : ℕ) (list : List ℕ) (m u k : ℕ) : Type 0 where
+-- gates are listed up to u, and k are to come
+pub record Tracing (n : ℕ) (E : ℕ → ℕ → Bool) (g : ℕ) (list : List ℕ) (u k : ℕ) : Type 0 where
   pub here : u < n
-  pub sofar : take m list ++ way n E g k u ≡ cycle n E g
+  pub sofar : list ++ way n E g k u ≡ cycle n E g
   pub more : (j : ℕ) → k ≡ suc j → Tight n E g u j
 
 module _ (n : ℕ) (E : ℕ → ℕ → Bool) (within : Within n E) (g top : ℕ) (d : List ℕ) (L : Lapped n E g top d) where
-  pub tracing_none : (list : List ℕ) → g < n → T (reaches n E g g) → Tracing n E g list 0 g top
+  pub tracing_none : (list : List ℕ) → list ≡ [] → g < n → T (reaches n E g g) → (k : ℕ) → k ≡ top → Tracing n E g list g k
   unfolding cycle
-  tracing_none list h r =
+  tracing_none list none h r k z =
       let q : ℕ → Bool = λ j. walks n E (suc j) g g in
-      let e : top ≡ suc (first n q) = L.long r in
+      let e : k ≡ suc (first n q) = z ∙ L.long r in
       let b : first n q < n = omega (arith, L.high) in
       record {
         here = h;
-        sofar = ap (λ (k : ℕ). way n E g k g) e;
+        sofar = rw none (ap (λ (k : ℕ). way n E g k g) e);
         more = λ j z. let y : first n q ≡ j = omega arith in subst (Tight n E g g) y (record {
           small = b;
           walk = walks_walk n E (suc (first n q)) g g (first_true n q b);
@@ -113,22 +112,20 @@ module _ (n : ℕ) (E : ℕ → ℕ → Bool) (within : Within n E) (g top : ℕ
         let a = and_T (E u w) (walks n E j w g) (subst (λ (x : ℕ). T (q x)) (sym e) (first_true n q (omega arith))) in
         (b, a.0, walks_walk n E j w g a.1)
 
-  pub tracing_more : (list : List ℕ) (m u k w : ℕ) → length list ≡ 128 → m < 128 → 0 < k → k ≤ top → Tracing n E g list m u k → (u < n → w ≡ next_by n E d u k)
-      → Tracing n E g (set list m w) (m + 1) w (k - 1)
+  pub tracing_more : (list : List ℕ) (u k w : ℕ) → 0 < k → k ≤ top → Tracing n E g list u k → below n (next_by n E d u k) ≡ Some w
+      → (list₁ : List ℕ) → list₁ ≡ list ++ (w ∷ []) → (j : ℕ) → k ≡ suc j → Tracing n E g list₁ w j
   unfolding way
-  tracing_more list m u k w size b low h S f =
-      let j : ℕ = k - 1 in
-      let s : k ≡ suc j = omega arith in
+  tracing_more list u k w low h S f list₁ q j s =
       let t = S.more j s in
-      let e : w ≡ first n (λ w. E u w && walks n E j w g) = f S.here ∙ ap (next_by n E d u) s ∙ next_way u j t (omega arith) in
+      let e : w ≡ first n (λ w. E u w && walks n E j w g) = sym (below_is n (next_by n E d u k) w f).0 ∙ ap (next_by n E d u) s ∙ next_way u j t (omega arith) in
       let a = next_tight u j t (omega arith) w e in
       record {
         here = a.0;
         sofar =
-            ap (λ (l : List ℕ). l ++ way n E g j w) (ap (λ (x : ℕ). take x (set list m w)) (add-one m) ∙ take-suc-set list m w (omega arith))
-            ∙ append_assoc (take m list) (w ∷ []) (way n E g j w)
-            ∙ ap (λ (x : ℕ). take m list ++ (x ∷ way n E g j x)) e
-            ∙ ap (λ (x : ℕ). take m list ++ way n E g x u) (sym s) ∙ S.sofar;
+            ap (λ (l : List ℕ). l ++ way n E g j w) q
+            ∙ append_assoc list (w ∷ []) (way n E g j w)
+            ∙ ap (λ (x : ℕ). list ++ (x ∷ way n E g j x)) e
+            ∙ ap (λ (x : ℕ). list ++ way n E g x u) (sym s) ∙ S.sofar;
         more = λ i z. record {
           small = omega (arith, t.small);
           walk = subst (λ (x : ℕ). Walk E x w g) z a.2;
@@ -136,6 +133,14 @@ module _ (n : ℕ) (E : ℕ → ℕ → Bool) (within : Within n E) (g top : ℕ
         };
       }
 
-  pub tracing_all : (list : List ℕ) (m u k : ℕ) → k ≤ 0 → Tracing n E g list m u k → take m list ≡ cycle n E g
+  -- there is a next gate
+  pub tracing_on : (list : List ℕ) (u k : ℕ) → 0 < k → k ≤ top → Tracing n E g list u k → below n (next_by n E d u k) ≡ None → ⊥
+  tracing_on list u k low h S f =
+      let s : k ≡ suc (k - 1) = omega arith in
+      let t = S.more (k - 1) s in
+      let e : next_by n E d u k ≡ first n (λ w. E u w && walks n E (k - 1) w g) = ap (next_by n E d u) s ∙ next_way u (k - 1) t (omega arith) in
+      omega (arith, below_end n (next_by n E d u k) f, (next_tight u (k - 1) t (omega arith) (next_by n E d u k) e).0)
+
+  pub tracing_all : (list : List ℕ) (u k : ℕ) → k ≤ 0 → Tracing n E g list u k → list ≡ cycle n E g
   unfolding way
-  tracing_all list m u k h S = let z : k ≡ 0 = omega arith in sym (append-nil (take m list)) ∙ ap (λ (x : ℕ). take m list ++ way n E g x u) (sym z) ∙ S.sofar
+  tracing_all list u k h S = let z : k ≡ 0 = omega arith in sym (append-nil list) ∙ ap (λ (x : ℕ). list ++ way n E g x u) (sym z) ∙ S.sofar

@@ -1,5 +1,4 @@
-pub mod Payloads
-pub mod Tags
+pub mod Alike
 pub mod Lookup
 pub mod Keys
 pub mod Field

@@ -9,33 +9,33 @@ use mathlib.Core.Bool.{Bool, true, false, not, ◌||◌}
 use borrow.Author.Tests.{leb-true, ltb-true, ltb-false, lt-ltb, le-ltb, le-leb, lt-leb, eq-eqb, ne_eqb, eqb-true, not-true}
 use lib.Dec.{eqb, leb, ltb}
 use lib.ListN.{length, length-append, get_or}
+use Rattle.std.specs.Prelude.{Result, Ok, Err}
 use Rattle.rules.specs.declared.Counts.{Counts}
-use Rattle.rules.specs.declared.Skip.{Skip}
-use Rattle.rules.specs.declared.Skip.TheVariants as skip
+use Rattle.rules.specs.declared.Fault.{Fault}
+use Rattle.rules.specs.declared.Fault.TheVariants.{TooLong, Cut, BadTag, TooMany}
 use Rattle.rules.specs.Basics.{pick}
 use Rattle.rules.specs.Syntax.{Field}
-use Rattle.rules.specs.Items.{Got, no, got, bind, as_skip}
+use Rattle.rules.specs.Items.{Got, bind, end}
 use Rattle.rules.specs.Reading.{refused, fields, scan, from, more, start, field, payload, whole, is_reg, placed, within, len_at, load_at, next, names_then}
 use Rattle.rules.specs.Grouping.{names}
-use Rattle.items.specs.Ends.{skip_no, skip_next}
+use Rattle.items.specs.Ends.{end_is_no, end_is_got}
 use Rattle.image.specs.declared.Names.{Names}
 use Rattle.image.specs.declared.Image.{Image}
-use Rattle.image.specs.declared.Verdict.TheVariants.{Read}
 use Rattle.image.specs.Table.{names_of, noted_of, starts, stop, table}
-use Rattle.image.specs.Whole.{is_gate, is_register, how_many, counts_of, refusal, image_of, closed_of, names_in, Reads}
+use Rattle.image.specs.Whole.{Outcome, is_gate, is_register, how_many, counts_of, refusal, image_of, closed_of, Reads}
 use Rattle.image.proofs.Sorts.{Sort, of_got, field_sort}
 use Rattle.image.proofs.Lists.{onto, onto_none, onto_more, names_more, more_of, starts_length, starts_more, stop_more, table_names, table_more}
 
 -- ---- what a field that is read tells
 
-never : {k : ℕ} {f : Field} {m : ℕ} → no k ≡ got f m → ⊥
+never : {k : Fault} {r : Field × ℕ} → ◌≡◌ {A = Got Field} (Err k) (Ok r) → ⊥
 never p = let z : ◌≡◌ {A = ℕ} 0 1 = cc in omega arith
 
 tests : (b₁ b₂ b₃ b₄ : Bool) (g : Got Field) (e at m : ℕ) (f : Field)
-    → bind (pick b₁ (got tt at) (no 3)) (λ (u : Unit {0}) n. bind (pick b₂ (got tt n) (no 4)) (λ (u : Unit {0}) n. bind (pick b₃ (got tt n) (no 3)) (λ (u : Unit {0}) n. bind (pick b₄ (got tt n) (no 7)) (λ (u : Unit {0}) n. bind g (λ f m. got f e))))) ≡ got f m
+    → bind (pick b₁ (Ok (tt, at)) (Err Cut)) (λ (u : Unit {0}) n. bind (pick b₂ (Ok (tt, n)) (Err BadTag)) (λ (u : Unit {0}) n. bind (pick b₃ (Ok (tt, n)) (Err Cut)) (λ (u : Unit {0}) n. bind (pick b₄ (Ok (tt, n)) (Err TooMany)) (λ (u : Unit {0}) n. bind g (λ f m. Ok (f, e)))))) ≡ Ok (f, m)
     → (b₁ ≡ true) × (b₂ ≡ true) × (b₃ ≡ true) × (b₄ ≡ true) × (m ≡ e)
-tests true true true true (got x n) e at m f p = (refl, refl, refl, refl, cc)
-tests true true true true (no k) e at m f p = absurd (never p)
+tests true true true true (Ok r) e at m f p = (refl, refl, refl, refl, (let q : ◌≡◌ {A = Field × ℕ} (r.0, e) (f, m) = cc in sym (ap (λ (x : Field × ℕ). x.1) q)))
+tests true true true true (Err k) e at m f p = absurd (never p)
 tests true true true false g e at m f p = absurd (never p)
 tests true true false b₄ g e at m f p = absurd (never p)
 tests true false b₃ b₄ g e at m f p = absurd (never p)
@@ -47,7 +47,7 @@ pub record Told (c : Counts) (img : List ℕ) (at m : ℕ) : Type 0 where
   pub room : within c (get_or img at 0) ≡ true
   pub goes : m ≡ at + 3 + len_at img at
 
-told : (c : Counts) (ns : List (List ℕ)) (img : List ℕ) (at m : ℕ) (f : Field) → field c ns img at ≡ got f m → Told c img at m
+told : (c : Counts) (ns : List (List ℕ)) (img : List ℕ) (at m : ℕ) (f : Field) → field c ns img at ≡ Ok (f, m) → Told c img at m
 unfolding field
 told c ns img at m f p =
     let t = tests (leb 3 (length img - at)) (placed c (get_or img at 0)) (leb (len_at img at) (length img - (at + 3))) (within c (get_or img at 0))
@@ -189,40 +189,40 @@ ready_start img t h e = record {
 
 -- one step of fuel
 module _ (c : Counts) (ns : List (List ℕ)) (img : List ℕ) (at : ℕ) (h : at < length img) where
-  stop_here : (k j : ℕ) → field c ns img at ≡ no j → from (suc k) c ns img at ≡ refused j at
+  stop_here : (k : ℕ) (j : Fault) → field c ns img at ≡ Err j → from (suc k) c ns img at ≡ refused j at
   unfolding from
   stop_here k j p = let ne : (at ≡ length img → ⊥) = omega arith in rw (ne_eqb _ _ ne, p)
 
-  go_on : (k m : ℕ) (f : Field) → 0 < k → field c ns img at ≡ got f m
+  go_on : (k m : ℕ) (f : Field) → 0 < k → field c ns img at ≡ Ok (f, m)
       → from k c ns img at ≡ more f (from (k - 1) (next c (get_or img at 0) (load_at img at)) (names_then ns (get_or img at 0) (load_at img at)) img m)
   unfolding from
   go_on zero m f z p = absurd (omega arith)
   go_on (suc k) m f z p = let ne : (at ≡ length img → ⊥) = omega arith in rw (ne_eqb _ _ ne, p, sub-one)
 
-pub refused_reads : (img : List ℕ) (k o : ℕ) (r : Image) → r ≡ refusal k o → scan img ≡ refused k o → Reads img r
-unfolding refusal image_of names_in names_of table
-refused_reads img k o r e s = rw e (record { whole = rw s; named = rw s })
+pub refused_reads : (img : List ℕ) (k : Fault) (o : ℕ) (r : Outcome) → r ≡ refusal k o → scan img ≡ refused k o → Reads img r
+unfolding refusal image_of
+refused_reads img k o r e s = rw e (record { whole = rw s refl; named = λ i p l q. cc })
 
-pub too_long : (img : List ℕ) → 65536 < length img → scan img ≡ refused 2 0
+pub too_long : (img : List ℕ) → 65536 < length img → scan img ≡ refused TooLong 0
 unfolding scan
 too_long img h = rw (lt-leb _ _ h)
 
-module _ (img : List ℕ) (c : Counts) (t : Names) (at : ℕ) (w : Ready img c t at) (h : at < length img) (r : Skip)
-    (er : r ≡ as_skip (field c (names_of img t) img at)) where
-  here : r ≡ as_skip (field c (names w.done) img at)
-  here = er ∙ ap (λ ns. as_skip (field c ns img at)) (held_names img w.done t w.noted)
+module _ (img : List ℕ) (c : Counts) (t : Names) (at : ℕ) (w : Ready img c t at) (h : at < length img) (r : Result ℕ Fault)
+    (er : r ≡ end (field c (names_of img t) img at)) where
+  here : r ≡ end (field c (names w.done) img at)
+  here = er ∙ ap (λ ns. end (field c ns img at)) (held_names img w.done t w.noted)
 
-  pub ready_stop : (k : ℕ) → r ≡ skip.No k → scan img ≡ refused k at
+  pub ready_stop : (k : Fault) → r ≡ Err k → scan img ≡ refused k at
   unfolding onto
   ready_stop k x = go w.fuel w.enough w.reads
     where
       go : (f : ℕ) → length img - at < f → scan img ≡ onto w.done (from f c (names w.done) img at) → scan img ≡ refused k at
       go zero lt inv = absurd (omega arith)
-      go (suc f) lt inv = rw (stop_here c (names w.done) img at h f k (skip_no (field c (names w.done) img at) (sym here ∙ x))) at inv
+      go (suc f) lt inv = rw (stop_here c (names w.done) img at h f k (end_is_no (field c (names w.done) img at) (sym here ∙ x))) at inv
 
-  module _ (m : ℕ) (x : r ≡ skip.Next m) where
-    found : (f : Field) × (field c (names w.done) img at ≡ got f m)
-    found = skip_next (field c (names w.done) img at) (sym here ∙ x)
+  module _ (m : ℕ) (x : r ≡ Ok m) where
+    found : (f : Field) × (field c (names w.done) img at ≡ Ok (f, m))
+    found = end_is_got (field c (names w.done) img at) (sym here ∙ x)
 
     pub heard : Told c img at m
     heard = told c (names w.done) img at m found.0 found.1
@@ -285,30 +285,43 @@ module _ (img : List ℕ) (c : Counts) (t : Names) (at : ℕ) (w : Ready img c t
     pub ready_turn : (tag : ℕ) (p : List ℕ) (d : Counts) (u : Names) → tag ≡ get_or img at 0 → p ≡ load_at img at → d ≡ next c tag p → u ≡ noted_of t tag at → Ready img d u m
     ready_turn tag p d u et ep ed eu = rw (ed, eu, ep, et) ready_next
 
+pub noted_as : (t u : Names) (tag at : ℕ) → tag ≡ 1 → u ≡ noted_of t 1 at → u ≡ noted_of t tag at
+noted_as t u tag at e h = rw e h
+
+pub noted_same : (t : Names) (tag at : ℕ) → (tag ≡ 1 → ⊥) → t ≡ noted_of t tag at
+unfolding noted_of
+noted_same t tag at e = rw (ne_eqb tag 1 e) refl
+
 -- ---- the end
 
 counts_made : (c : Counts) (n g r i : ℕ) (b s : Bool) → c.names ≡ n → c.gates ≡ g → c.regs ≡ r → c.ifs ≡ i → c.body ≡ b → c.begun ≡ s
     → c ≡ record { names = n; gates = g; regs = r; ifs = i; body = b; begun = s }
 counts_made c n g r i b s en eg er ei eb es = rw (← en, ← eg, ← er, ← ei, ← eb, ← es)
 
-pub ready_end : (img : List ℕ) (c : Counts) (t : Names) (at : ℕ) (r : Image) → Ready img c t at → length img ≤ at → r ≡ closed_of c t at → Reads img r
-unfolding closed_of from onto image_of names_in counts_of
+pub ready_end : (img : List ℕ) (c : Counts) (t : Names) (at : ℕ) (r : Outcome) → Ready img c t at → length img ≤ at → r ≡ closed_of c t at → Reads img r
+unfolding closed_of from onto image_of counts_of
 ready_end img c t at r w h e = rw e (by c.body c.ifs refl refl (all w.fuel w.enough w.reads))
   where
     ends : at ≡ length img
     ends = omega (arith, w.inside)
 
     all : (f : ℕ) → length img - at < f → scan img ≡ onto w.done (from f c (names w.done) img at)
-        → scan img ≡ onto w.done (pick (c.body || ltb 0 c.ifs) (refused 3 at) (fields []))
+        → scan img ≡ onto w.done (pick (c.body || ltb 0 c.ifs) (refused Cut at) (fields []))
     all zero lt inv = absurd (omega arith)
     all (suc f) lt inv = rw (eq-eqb at (length img) ends) at inv
 
-    by : (b : Bool) (i : ℕ) → c.body ≡ b → c.ifs ≡ i → scan img ≡ onto w.done (pick (b || ltb 0 i) (refused 3 at) (fields []))
-        → Reads img (pick (b || ltb 0 i) (refusal 3 at) (record { verdict = Read; names = t; counts = c }))
-    by true i eb ei s = refused_reads img 3 at (refusal 3 at) refl s
-    by false (suc i) eb ei s = rw (lt-ltb 0 (suc i) (omega arith)) (refused_reads img 3 at (refusal 3 at) refl (rw (lt-ltb 0 (suc i) (omega arith)) at s))
+    by : (b : Bool) (i : ℕ) → c.body ≡ b → c.ifs ≡ i → scan img ≡ onto w.done (pick (b || ltb 0 i) (refused Cut at) (fields []))
+        → Reads img (pick (b || ltb 0 i) (refusal Cut at) (Ok (record { names = t; counts = c })))
+    by true i eb ei s = refused_reads img Cut at (refusal Cut at) refl s
+    by false (suc i) eb ei s = rw (lt-ltb 0 (suc i) (omega arith)) (refused_reads img Cut at (refusal Cut at) refl (rw (lt-ltb 0 (suc i) (omega arith)) at s))
     by false zero eb ei s =
         let read : scan img ≡ fields w.done = s ∙ ap fields (append-nil w.done) in
         let tallies : c ≡ counts_of w.done =
         counts_made c _ _ _ _ _ _ w.tally.names_are w.tally.gates_are w.tally.regs_are ei eb w.tally.begun_is in
-        record { whole = rw (read, w.noted.tabled, tallies); named = rw read (held_names img w.done t w.noted) }
+        record {
+          whole = rw (read, ← w.noted.tabled, ← tallies) refl;
+          named = λ i p l q.
+              let is : ◌≡◌ {A = Image} (record { names = t; counts = c }) i = cc in
+              let all : w.done ≡ l = cc in
+              rw (← is, ← all) (held_names img w.done t w.noted);
+        }

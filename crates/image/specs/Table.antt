@@ -62,9 +62,3 @@ pub record Keyed (img places keys : List ℕ) (n : ℕ) : Type 0 where
 pub record Marked (keys marks : List ℕ) (n : ℕ) : Type 0 where
   pub slots : length marks ≡ 8192
   pub marked : (i : ℕ) → i < n → get_or marks (slot_of (get_or keys i 0)) 0 ≡ 1
-
--- what a field with the tag at a place and the key k adds to them
-pub record Notes (tag at k n : ℕ) (places keys marks : List ℕ) (n' : ℕ) (places' keys' marks' : List ℕ) : Type 0 where
-  pub place : tabled places' n' ≡ noted_of (tabled places n) tag at
-  pub key : keys' ≡ pick (eqb tag 1) (pick (ltb n 512) (set keys n k) keys) keys
-  pub mark : marks' ≡ pick (eqb tag 1) (pick (ltb n 512) (set marks (slot_of k) 1) marks) marks

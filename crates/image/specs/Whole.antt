@@ -1,13 +1,15 @@
 -- What reading an image answers.
-use Rattle.std.specs.Prelude.{ℕ, ◌+◌, ◌≡◌, List, [], ◌∷◌, Bool, true, false, ◌||◌, length, ltb}
+use Rattle.std.specs.Prelude.{ℕ, ◌+◌, ◌≡◌, List, [], ◌∷◌, Bool, true, false, ◌||◌, length, ltb, Result, Ok, Err}
 use Rattle.rules.specs.declared.Counts.{Counts}
+use Rattle.rules.specs.declared.Fault.{Fault}
+use Rattle.rules.specs.declared.Fault.TheVariants.{Cut}
 use Rattle.rules.specs.Basics.{pick}
 use Rattle.rules.specs.Syntax.{Field, name_f, include_f, reg_f, gate_f, end_f, stmt_f, if_f}
-use Rattle.rules.specs.Reading.{Fields, refused, fields, scan, start}
+use Rattle.rules.specs.Reading.{Fields, refused, fields, scan}
 use Rattle.rules.specs.Grouping.{names}
 use Rattle.image.specs.declared.Names.{Names}
 use Rattle.image.specs.declared.Image.{Image}
-use Rattle.image.specs.declared.Verdict.TheVariants.{Read, Refused}
+use Rattle.image.specs.declared.Refused.{Refused}
 use Rattle.image.specs.Table.{names_of, starts, table}
 
 unfoldable pub is_gate : Field → Bool
@@ -43,24 +45,23 @@ counts_of l = record {
   begun = ltb (length (names l)) (length l);
 }
 
--- 01: "Numbers not named are zero."
-unfoldable pub refusal : (number offset : ℕ) → Image
-refusal k o = record { verdict = Refused k o; names = table []; counts = start }
+-- what reading answers
+abbrev pub Outcome : Type 0
+Outcome = Result Image Refused
+
+unfoldable pub refusal : (fault : Fault) (offset : ℕ) → Outcome
+refusal k o = Err (record { fault = k; offset = o })
 
 -- NAMEs come first, so their places follow from their number
-unfoldable pub image_of : List ℕ → Fields → Image
+unfoldable pub image_of : List ℕ → Fields → Outcome
 image_of img (refused k o) = refusal k o
-image_of img (fields l) = record { verdict = Read; names = table (starts (length (names l)) img 0); counts = counts_of l }
+image_of img (fields l) = Ok (record { names = table (starts (length (names l)) img 0); counts = counts_of l })
 
 -- at the end of the image: 01: "3: image ends in a field, in a body, or after IF"
-unfoldable pub closed_of : Counts → Names → (at : ℕ) → Image
-closed_of c t at = pick (c.body || ltb 0 c.ifs) (refusal 3 at) (record { verdict = Read; names = t; counts = c })
-
-unfoldable pub names_in : Fields → List (List ℕ)
-names_in (refused k o) = []
-names_in (fields l) = names l
+unfoldable pub closed_of : Counts → Names → (at : ℕ) → Outcome
+closed_of c t at = pick (c.body || ltb 0 c.ifs) (refusal Cut at) (Ok (record { names = t; counts = c }))
 
 -- The answer is settled by the fields, and the table holds the program's names.
-pub record Reads (img : List ℕ) (r : Image) : Type 0 where
+pub record Reads (img : List ℕ) (r : Outcome) : Type 0 where
   pub whole : r ≡ image_of img (scan img)
-  pub named : names_of img r.names ≡ names_in (scan img)
+  pub named : (i : Image) → r ≡ Ok i → (l : List Field) → scan img ≡ fields l → names_of img i.names ≡ names l

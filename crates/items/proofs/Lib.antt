@@ -1,4 +1,3 @@
 pub mod Numbers
-pub mod Operands
-pub mod Exprs
 pub mod NodeLaws
+pub mod Laws

@@ -1,4 +1,5 @@
-// A node of an expression, by value. Its operands follow it in prefix order.
+// A node of an expression, by value. Its operands follow it in prefix order. (An opcode stays the number that 01 calls it by: any byte may stand there,
+// and what the definitions say they say of any number.)
 ghost use Rattle.std.specs.Prelude.{◌≡◌, ◌<◌};
 ghost use Rattle.std.specs.Float.Ieee.{of_bits};
 ghost use Rattle.std.specs.Float.{binary32};
@@ -26,7 +27,7 @@ pub enum Node {
     Sqrt,
 }
 
-// The float of a pattern. Every NaN's pattern gives the one NaN.
+// The float of a pattern. Every NaN's pattern gives the one NaN; `from_bits` takes none.
 pub fn real_of(bits: u32) -> f32
     ensures { result ≡ of_bits binary32 bits }
 {
@@ -37,6 +38,7 @@ pub fn real_of(bits: u32) -> f32
 }
 
 // The operator of an opcode from 4 on; an opcode over 15, which no expression that is read has, counts as Sqrt.
+#[tactic(auto, unfolding(crate::specs::Node::operator))]
 pub fn operator_of(o: u64) -> Node
     ensures { result ≡ operator o }
 {
@@ -57,22 +59,17 @@ pub fn operator_of(o: u64) -> Node
 }
 
 // The node with the opcode o whose data stands at a place.
+#[tactic(auto, unfolding(crate::specs::Node::node_of))]
 pub fn node_of(o: u64, s: &[u8], start: usize) -> Node
     ensures { result ≡ node_of o s.now start }
 {
-    if o == 0 {
-        return Node::Pi;
+    match o {
+        0 => Node::Pi,
+        1 => Node::Real(real_of(four_at(s, start) as u32)),
+        2 => Node::Int(eight_at(s, start)),
+        3 => Node::Var(two_at(s, start) as u16),
+        _ => operator_of(o),
     }
-    if o == 1 {
-        return Node::Real(real_of(four_at(s, start) as u32));
-    }
-    if o == 2 {
-        return Node::Int(eight_at(s, start));
-    }
-    if o == 3 {
-        return Node::Var(two_at(s, start) as u16);
-    }
-    operator_of(o)
 }
 
 // The node at a place of any bytes; those past the end count as 0.
@@ -84,6 +81,7 @@ pub fn node_at(s: &[u8], at: usize) -> Node
 }
 
 // How many bytes a node with the opcode o takes: its first operand, if it has one, begins so far on.
+#[tactic(auto, unfolding(crate::specs::Node::node_length))]
 pub fn node_length(o: u64) -> usize
     ensures { result ≡ node_length o }
 {
@@ -96,11 +94,13 @@ pub fn node_length(o: u64) -> usize
 }
 
 // How many operands a node with the opcode o has.
+#[tactic(auto, unfolding(crate::specs::Node::node_operands))]
 pub fn node_operands(o: u64) -> u64
     ensures { result ≡ node_operands o }
 {
-    if o < 4 {
-        return 0;
+    match o {
+        0..=3 => 0,
+        4..=8 => 2,
+        _ => 1,
     }
-    if o < 9 { 2 } else { 1 }
 }

@@ -1,7 +1,7 @@
 -- What writing bytes at a place of a lent buffer leaves. A place stops at the largest number, which no buffer reaches, so that a count never wraps and
 -- no writer demands room; that a program's list stays below it is shown once, for the whole.
 use Rattle.std.specs.Prelude.{◌≡◌, refl, List, [], ◌∷◌, ◌++◌, ℕ, suc, ◌+◌, ◌≤◌, min, max, length, set}
-use Rattle.std.proofs.Common.{ap, sym, ◌∙◌, add-zero, add-suc, suc-add, arith, length-append, length-set}
+use Rattle.std.proofs.Common.{ap, sym, ◌∙◌, add-zero, add-suc, suc-add, arith, length-append}
 use Rattle.std.proofs.Math.Decide.{dec_le}
 use Rattle.std.proofs.lemmas.List.Edits.{sets}
 use Rattle.std.proofs.Math.Seq.{set_out, length-sets}
@@ -52,35 +52,3 @@ wrote_then {o} {o₁} {o₂} {a} {b} {p} {q} {r} v w = record {
 
 pub wrote_none : (o : List ℕ) (p : ℕ) → Wrote o p [] o p
 wrote_none o p = record { buffer = λ h. refl; long = refl; place = omega arith }
-
--- calls in a row, in the form that `search` can apply
-
-pub wrote_2 : {o o1 o2 a b all : List ℕ} {p p1 p2 : ℕ} → Wrote o p a o1 p1 → Wrote o1 p1 b o2 p2 → all ≡ a ++ b → Wrote o p all o2 p2
-wrote_2 h0 h1 eq = rw eq (wrote_then h0 h1)
-
-pub wrote_3 : {o o1 o2 o3 a b c all : List ℕ} {p p1 p2 p3 : ℕ} → Wrote o p a o1 p1 → Wrote o1 p1 b o2 p2 → Wrote o2 p2 c o3 p3
-    → all ≡ a ++ (b ++ c) → Wrote o p all o3 p3
-wrote_3 h0 h1 h2 eq = rw eq (wrote_then h0 (wrote_then h1 h2))
-
-pub wrote_4 : {o o1 o2 o3 o4 a b c d all : List ℕ} {p p1 p2 p3 p4 : ℕ} → Wrote o p a o1 p1 → Wrote o1 p1 b o2 p2 → Wrote o2 p2 c o3 p3 → Wrote o3 p3 d o4 p4
-    → all ≡ a ++ (b ++ (c ++ d)) → Wrote o p all o4 p4
-wrote_4 h0 h1 h2 h3 eq = rw eq (wrote_then h0 (wrote_then h1 (wrote_then h2 h3)))
-
-pub wrote_5 : {o o1 o2 o3 o4 o5 a b c d e all : List ℕ} {p p1 p2 p3 p4 p5 : ℕ} → Wrote o p a o1 p1 → Wrote o1 p1 b o2 p2 → Wrote o2 p2 c o3 p3
-    → Wrote o3 p3 d o4 p4 → Wrote o4 p4 e o5 p5 → all ≡ a ++ (b ++ (c ++ (d ++ e))) → Wrote o p all o5 p5
-wrote_5 h0 h1 h2 h3 h4 eq = rw eq (wrote_then h0 (wrote_then h1 (wrote_then h2 (wrote_then h3 h4))))
-
-pub wrote_6 : {o o1 o2 o3 o4 o5 o6 a b c d e f all : List ℕ} {p p1 p2 p3 p4 p5 p6 : ℕ} → Wrote o p a o1 p1 → Wrote o1 p1 b o2 p2 → Wrote o2 p2 c o3 p3
-    → Wrote o3 p3 d o4 p4 → Wrote o4 p4 e o5 p5 → Wrote o5 p5 f o6 p6 → all ≡ a ++ (b ++ (c ++ (d ++ (e ++ f)))) → Wrote o p all o6 p6
-wrote_6 h0 h1 h2 h3 h4 h5 eq = rw eq (wrote_then h0 (wrote_then h1 (wrote_then h2 (wrote_then h3 (wrote_then h4 h5)))))
-
-pub wrote_7 : {o o1 o2 o3 o4 o5 o6 o7 a b c d e f g all : List ℕ} {p p1 p2 p3 p4 p5 p6 p7 : ℕ} → Wrote o p a o1 p1 → Wrote o1 p1 b o2 p2 → Wrote o2 p2 c o3 p3
-    → Wrote o3 p3 d o4 p4 → Wrote o4 p4 e o5 p5 → Wrote o5 p5 f o6 p6 → Wrote o6 p6 g o7 p7 → all ≡ a ++ (b ++ (c ++ (d ++ (e ++ (f ++ g))))) → Wrote o p all o7 p7
-wrote_7 h0 h1 h2 h3 h4 h5 h6 eq = rw eq (wrote_then h0 (wrote_then h1 (wrote_then h2 (wrote_then h3 (wrote_then h4 (wrote_then h5 h6))))))
-
--- one byte, with room for it and without
-pub wrote_in : (o : List ℕ) (p b q : ℕ) → q ≡ plus p 1 → Wrote o p (b ∷ []) (set o p b) q
-wrote_in o p b q e = record { buffer = λ h. refl; long = length-set o p b; place = e }
-
-pub wrote_out : (o : List ℕ) (p b q : ℕ) → length o ≤ p → q ≡ plus p 1 → Wrote o p (b ∷ []) o q
-wrote_out o p b q h e = record { buffer = λ l. sym (set_out o p b h); long = refl; place = e }

@@ -36,26 +36,9 @@ module _ {E : Type 0} (w : E → List ℕ) where
   pub put_same : {o o' : List ℕ} {s s' : Sink} {a b : List E} → Put o s a o' s' → a ≡ b → Put o s b o' s'
   put_same h e = rw (← e) h
 
-  -- A loop that puts `all` from o₀ and s₀ stands at o and s, with `rest` left to put.
-  abbrev pub Owes : List ℕ → Sink → List E → List ℕ → Sink → List E → Type 0
-  Owes o₀ s₀ all o s rest = (o' : List ℕ) (s' : Sink) → Put o s rest o' s' → Put o₀ s₀ all o' s'
-
-  pub owes_all : (o : List ℕ) (s : Sink) (es : List E) → Owes o s es o s es
-  owes_all o s es = λ o' s' h. h
-
-  pub owes_same : (o : List ℕ) (s : Sink) {all rest : List E} → all ≡ rest → Owes o s all o s rest
-  owes_same o s e = λ o' s' h. put_same h (sym e)
-
-  pub owes_less : {o₀ o o₁ : List ℕ} {s₀ s s₁ : Sink} {all rest a b : List E} → Owes o₀ s₀ all o s rest → rest ≡ a ++ b → Put o s a o₁ s₁ → Owes o₀ s₀ all o₁ s₁ b
-  owes_less h e k = λ o' s' l. h o' s' (put_same (put_then k l) (sym e))
-
-  pub owes_none : {o₀ o : List ℕ} {s₀ s : Sink} {all rest : List E} → Owes o₀ s₀ all o s rest → rest ≡ [] → Put o₀ s₀ all o s
-  owes_none {o = o} {s = s} h e = h o s (put_same (put_none o s) (sym e))
-
 abbrev pub Said : List ℕ → Sink → List Error → List ℕ → Sink → Type 0
 Said = Put error_field
 
--- one error's field, by what the writer and the counter say
-pub said_as : {o o' : List ℕ} {s r : Sink} {at : ℕ} (e : Error) → Wrote o s.bytes (error_field e) o' at → (r.items ≡ plus s.items 1) × (r.bytes ≡ at)
-    → Said o s (e ∷ []) o' r
-said_as e h k = put_one error_field e (rw k.1 h) k.0
+-- nothing yet
+abbrev pub start : Sink
+start = record { items = 0; bytes = 0 }

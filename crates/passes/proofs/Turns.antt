@@ -1,162 +1,160 @@
--- What one turn of each pass gives.
-use mathlib.Core.Path.{◌≡◌, refl, sym, ap, ◌∙◌}
-use mathlib.Core.List.{List, [], ◌++◌}
-use mathlib.Core.Bool.{Bool, true, false, not}
-use Prim.Native.Nat.{ℕ, ◌<◌, ◌≤◌}
-use native.Mathlib.Omega.{arith}
+-- What a turn of each pass gives.
+use mathlib.Core.Path.{◌≡◌, refl, sym, ap, ◌∙◌, subst}
+use mathlib.Core.List.{List, ◌∷◌, ◌++◌}
+use mathlib.Core.Bool.{Bool, true, false}
+use Prim.Native.Nat.{ℕ}
+use native.Mathlib.Decide.{ℕ_discrete}
 use borrow.Author.Tests.{ne_eqb}
-use lib.ListN.{length, get_or}
-use lib.Dec.{eqb}
-use Rattle.rules.specs.Errors.{Error, error_field}
-use Rattle.rules.specs.Reading.{is_stmt, load_at}
-use Rattle.rules.specs.Syntax.{Gate}
+use lib.Dec.{T, eqb}
+use Rattle.rules.specs.Errors.{error_field}
+use Rattle.rules.specs.Reading.{is_stmt}
+use Rattle.rules.specs.Syntax.{Gate, top}
 use Rattle.rules.specs.Grouping.{stmt, stmts, body_of, decls}
 use Rattle.rules.specs.Checking.{Scope, body_scope, stmt_errors, stmts_errors, top_errors, body_errors, def_errors}
-use Rattle.views.specs.View.{next_in, rest, rest_end}
-use Rattle.views.specs.Steps.{then, top_here, stmt_here, body_end, body_skip, inside_here, gate_here_lem, gate_at_place, other_here, gates_skip}
-use Rattle.output.specs.declared.Sink.{Sink}
-use Rattle.output.specs.Sinks.{put_none, Owes, owes_less}
+use Rattle.views.specs.declared.Field.{Field}
+use Rattle.views.specs.declared.Fields.{Fields}
+use Rattle.views.specs.View.{next_in, rest}
+use Rattle.views.specs.Steps.{after, then, first_top, first_stmt, first_end, first_skip, first_gate, first_other, first_not_gate, gate_at_place}
+use Rattle.views.specs.Fields.{Passes, Over, left, opened, head, head_opened, stays_inside, none_left, none_opened}
+use Rattle.output.specs.declared.Writer.{Writer}
+use Rattle.output.specs.Writers.{Says, puts_none, Owes, owes_less, owes_none}
 use Rattle.tables.specs.Tables.{scope_in}
-use Rattle.typing.specs.declared.Checked.{Checked}
 use Rattle.typing.specs.Checked.{Done}
-use Rattle.passes.specs.declared.Step.{Step}
-use Rattle.passes.specs.Passes.{Moves, Heads, BodyChecked, DefMoves, defs}
+use Rattle.passes.specs.Passes.{Heads, BodyChecked, defs, DefsSaid}
 
--- ---- whether a body is open
+-- no body is open behind a statement
+shut : (t : ℕ) (p : List ℕ) → is_stmt t ≡ true → then false t p ≡ false
+unfolding then
+shut t p e =
+    let n : eqb t 5 ≡ false = ne_eqb t 5 (λ q. let w : ◌≡◌ {A = Bool} false true = rw q at e in subst T (sym w) tt) in
+    rw n refl
 
-module _ (i : Bool) (t : ℕ) (p : List ℕ) where
-  pub then_in : i ≡ true → not (eqb t 6) ≡ then i t p
-  unfolding then
-  then_in e = rw e refl
+-- ---- statements, at the top level and in a body: what is owed where the iterator stands at s
 
-  pub then_gate : i ≡ false → t ≡ 5 → (k : Bool) → k ≡ eqb (get_or p 10 0) 1 → k ≡ then i t p
-  unfolding then
-  then_gate e f k q = rw (e, f) q
+pub record TopsOwed (C : Scope) (img : List ℕ) (w₀ : Writer) (s : Fields) (w : Writer) : Type 0 where
+  pub whole : s.img.now ≡ img
+  pub owes : Owes error_field w₀ (top_errors C (decls false false (rest img 0))) w (top_errors C (opened s))
 
-  pub then_not : i ≡ false → (t ≡ 5 → ⊥) → false ≡ then i t p
-  unfolding then
-  then_not e f = rw (e, ne_eqb t 5 f) refl
+pub record BodyOwed (C : Scope) (img : List ℕ) (place : ℕ) (w₀ : Writer) (s : Fields) (w : Writer) : Type 0 where
+  pub whole : s.img.now ≡ img
+  pub owes : Owes error_field w₀ (stmts_errors C (stmts false (rest img (next_in img place)))) w (stmts_errors C (stmts false (left s)))
 
-pub ruleset then_laws = (then_in, then_gate, then_not)
+module _ (gates regs img : List ℕ) (s t : Fields) (f : Field) (k : Passes s f t) (whole : s.img.now ≡ img) (w w' : Writer) (next : ℕ) where
+  -- the fields from the statement on, and the iterator set behind it
+  here : rest img f.place ≡ left s
+  here = rw (k.place, whole) refl
 
--- ---- turns
+  abbrev moved : Fields
+  moved = record { img = t.img; at = next; inside = t.inside }
 
--- nothing told
-pub moves_on : (X : Bool → ℕ → List Error) (img : List ℕ) (i : Bool) (at : ℕ) (b : List ℕ) (s : Sink) (j : Bool) (n : ℕ) → at < length img → n ≡ next_in img at → X i at ≡ X j n
-    → Moves X img i at b s b (record { next = n; inside = j; sink = s })
-moves_on X img i at b s j n h e q = record { told = []; said = put_none error_field b s; owed = q; on = omega arith; within = omega arith }
+  behind : Done gates regs img f.place w w' next → left moved ≡ after (left s)
+  behind d = ap (λ x. rest x.now next) k.img ∙ ap (λ (x : List ℕ). rest x next) whole ∙ d.left ∙ ap after here
 
--- what a loop owes after a turn
-pub moved : (X : Bool → ℕ → List Error) (img : List ℕ) (i : Bool) (at : ℕ) (b : List ℕ) (s : Sink) (b' : List ℕ) (r : Step) (b₀ : List ℕ) (s₀ : Sink) (all : List Error)
-    → Owes error_field b₀ s₀ all b s (X i at) → Moves X img i at b s b' r → Owes error_field b₀ s₀ all b' r.sink (X r.inside r.next)
-moved X img i at b s b' r b₀ s₀ all h m = owes_less error_field h m.owed m.said
+  still : moved.img.now ≡ img
+  still = ap (λ x. x.now) k.img ∙ whole
 
-module _ (C : Scope) (img : List ℕ) where
-  abbrev pub tops : Bool → ℕ → List Error
-  tops i at = top_errors C (decls i false (rest img at))
-
-  pub tops_end : (i : Bool) (at : ℕ) → length img ≤ at → tops i at ≡ []
-  unfolding top_errors decls
-  tops_end true at h = rw (rest_end img at h) refl
-  tops_end false at h = rw (rest_end img at h) refl
-
-  abbrev pub bodies : Bool → ℕ → List Error
-  bodies i at = stmts_errors C (stmts false (rest img at))
-
-  pub bodies_end : (at : ℕ) → length img ≤ at → bodies false at ≡ []
-  unfolding stmts_errors stmts
-  bodies_end at h = rw (rest_end img at h) refl
-
-module _ (gates regs img : List ℕ) (at : ℕ) (h : at < length img) (t : ℕ) (et : t ≡ get_or img at 0) (p : List ℕ) (ep : p ≡ load_at img at) (b : List ℕ) (s : Sink) where
+module _ (gates regs img : List ℕ) (w₀ : Writer) (s t : Fields) (f : Field) (w : Writer) (k : Passes s f t) (o : TopsOwed (scope_in gates regs) img w₀ s w) where
   abbrev C : Scope
   C = scope_in gates regs
 
-  pub top_inside : (i : Bool) → i ≡ true → (j : Bool) → j ≡ then true t p → (n : ℕ) → n ≡ next_in img at → Moves (tops C img) img i at b s b (record { next = n; inside = j; sink = s })
-  top_inside i e j ej n en = moves_on (tops C img) img i at b s j n h en (rw (e, ej) (ap (top_errors C) (inside_here img at t n p h et ep en)))
+  top_on : top_errors C (opened s) ≡ top_errors C (opened t) → TopsOwed C img w₀ t w
+  top_on q = record { whole = ap (λ x. x.now) k.img ∙ o.whole; owes = owes_less error_field o.owes q (puts_none error_field w) }
 
-  pub top_other : (i : Bool) → i ≡ false → (k : Bool) → k ≡ is_stmt t → k ≡ false → (j : Bool) → j ≡ then false t p → (n : ℕ) → n ≡ next_in img at
-      → Moves (tops C img) img i at b s b (record { next = n; inside = j; sink = s })
-  unfolding top_errors
-  top_other i e k ek none j ej n en =
-      moves_on (tops C img) img i at b s j n h en
-      (rw (e, ej) (other_here (top_errors C) (λ sp x ds. refl) img at t n p h et ep en (λ c d o ds. refl) (λ g ds. refl) (sym ek ∙ none)))
+  pub top_inside : f.inside ≡ true → TopsOwed C img w₀ t w
+  top_inside e = top_on (ap (top_errors C) (stays_inside s t f k e))
 
-  pub top_stmt : (i : Bool) → i ≡ false → (k : Bool) → k ≡ is_stmt t → k ≡ true → (b' : List ℕ) (r : Checked) → Done gates regs img at b s b' r
-      → Moves (tops C img) img i at b s b' (record { next = r.next; inside = false; sink = r.sink })
+  pub top_other : f.inside ≡ false → is_stmt f.tag ≡ false → TopsOwed C img w₀ t w
   unfolding top_errors
-  top_stmt i e k ek there b' r d = record {
-    told = stmt_errors C (stmt (rest img at));
-    said = d.said;
-    owed = rw (e, top_here img at t (next_in img at) p h et ep refl (sym ek ∙ there), d.left) refl;
-    on = d.past h (ap is_stmt (sym et) ∙ sym ek ∙ there);
-    within = d.inside;
+  top_other e n = top_on (rw (head_opened s t f k, k.body, e) (first_other (top_errors C) (λ sp x ds. refl) f.tag f.payload.now (left t) (λ c d o ds. refl) (λ g ds. refl) n))
+
+  pub top_stmt : f.inside ≡ false → is_stmt f.tag ≡ true → (w' : Writer) (next : ℕ) → Done gates regs img f.place w w' next → TopsOwed C img w₀ (record { img = t.img; at = next; inside = t.inside }) w'
+  unfolding top_errors
+  top_stmt e n w' next d =
+      let first : opened s ≡ top (stmt (left s)) ∷ decls false false (after (left s)) = rw (← k.inside, e, head s t f k) (first_top f.tag f.payload.now (left t) n) in
+      let open' : t.inside ≡ false = k.body ∙ (rw e (shut f.tag f.payload.now n)) in
+      let m : Fields = record { img = t.img; at = next; inside = t.inside } in
+      let owed : top_errors C (opened s) ≡ stmt_errors C (stmt (left s)) ++ top_errors C (opened m) = rw (first, open', behind gates regs img s t f k o.whole w w' next d) refl in
+      let said : Says w (stmt_errors C (stmt (left s))) w' = subst (λ l. Says w (stmt_errors C (stmt l)) w') (here gates regs img s t f k o.whole w w' next) d.said in
+      record { whole = still gates regs img s t f k o.whole w w' next; owes = owes_less error_field o.owes owed said }
+
+pub tops_done : (C : Scope) (img : List ℕ) (w₀ : Writer) (s t : Fields) (w : Writer) → TopsOwed C img w₀ s w → Over s t → Says w₀ (top_errors C (decls false false (rest img 0))) w
+unfolding top_errors
+tops_done C img w₀ s t w o k = owes_none error_field o.owes (rw (none_opened s t k) refl)
+
+module _ (gates regs img : List ℕ) (place : ℕ) (w₀ : Writer) (s t : Fields) (f : Field) (w : Writer) (k : Passes s f t) (o : BodyOwed (scope_in gates regs) img place w₀ s w) where
+  abbrev C' : Scope
+  C' = scope_in gates regs
+
+  pub body_over : f.tag ≡ 6 → Says w₀ (stmts_errors C' (stmts false (rest img (next_in img place)))) w
+  unfolding stmts_errors
+  body_over e = owes_none error_field o.owes (rw (head s t f k, first_end f.tag f.payload.now (left t) e) refl)
+
+  pub body_other : (f.tag ≡ 6 → ⊥) → is_stmt f.tag ≡ false → BodyOwed C' img place w₀ t w
+  body_other m n = record {
+    whole = ap (λ x. x.now) k.img ∙ o.whole;
+    owes = owes_less error_field o.owes (rw (head s t f k, first_skip f.tag f.payload.now (left t) n m) refl) (puts_none error_field w);
   }
 
-  pub body_stmt : (k : Bool) → k ≡ is_stmt t → k ≡ true → (b' : List ℕ) (r : Checked) → Done gates regs img at b s b' r
-      → Moves (bodies C img) img false at b s b' (record { next = r.next; inside = false; sink = r.sink })
+  pub body_stmt : is_stmt f.tag ≡ true → (w' : Writer) (next : ℕ) → Done gates regs img f.place w w' next → BodyOwed C' img place w₀ (record { img = t.img; at = next; inside = t.inside }) w'
   unfolding stmts_errors
-  body_stmt k ek there b' r d = record {
-    told = stmt_errors C (stmt (rest img at));
-    said = d.said;
-    owed = rw (stmt_here img at t (next_in img at) p h et ep refl (sym ek ∙ there), d.left) refl;
-    on = d.past h (ap is_stmt (sym et) ∙ sym ek ∙ there);
-    within = d.inside;
-  }
+  body_stmt n w' next d =
+      let first : stmts false (left s) ≡ stmt (left s) ∷ stmts false (after (left s)) = rw (head s t f k) (first_stmt f.tag f.payload.now (left t) n) in
+      let m : Fields = record { img = t.img; at = next; inside = t.inside } in
+      let owed : stmts_errors C' (stmts false (left s)) ≡ stmt_errors C' (stmt (left s)) ++ stmts_errors C' (stmts false (left m)) = rw (first, behind gates regs img s t f k o.whole w w' next d) refl in
+      let said : Says w (stmt_errors C' (stmt (left s))) w' = subst (λ l. Says w (stmt_errors C' (stmt l)) w') (here gates regs img s t f k o.whole w w' next) d.said in
+      record { whole = still gates regs img s t f k o.whole w w' next; owes = owes_less error_field o.owes owed said }
 
-  pub body_other : (t ≡ 6 → ⊥) → (k : Bool) → k ≡ is_stmt t → k ≡ false → (n : ℕ) → n ≡ next_in img at
-      → Moves (bodies C img) img false at b s b (record { next = n; inside = false; sink = s })
-  body_other m k ek none n en =
-      moves_on (bodies C img) img false at b s false n h en (ap (stmts_errors C) (body_skip img at t n p h et ep en (sym ek ∙ none) m))
-
-  pub body_over : t ≡ 6 → bodies C img false at ≡ []
-  unfolding stmts_errors
-  body_over e = rw (body_end img at t (next_in img at) p h et ep refl e) refl
+pub body_done : (C : Scope) (img : List ℕ) (place : ℕ) (w₀ : Writer) (s t : Fields) (w : Writer) → BodyOwed C img place w₀ s w → Over s t → Says w₀ (stmts_errors C (stmts false (rest img (next_in img place)))) w
+unfolding stmts_errors stmts
+body_done C img place w₀ s t w o k = owes_none error_field o.owes (rw (none_left s t k) refl)
 
 -- ---- bodies behind headers
 
-pub defs_end : (gs : List Gate) (img : List ℕ) (i : Bool) (at : ℕ) → length img ≤ at → defs gs img i at ≡ []
-unfolding def_errors decls
-defs_end gs img true at h = rw (rest_end img at h) refl
-defs_end gs img false at h = rw (rest_end img at h) refl
+pub record DefsOwed (gates img : List ℕ) (w₀ : Writer) (s : Fields) (w : Writer) : Type 0 where
+  pub whole : s.img.now ≡ img
+  pub same : w.out.ghost_name ≡ w₀.out.ghost_name
+  pub owes : (gs : List Gate) → Heads gs gates → Owes error_field w₀ (defs gs img false 0) w (def_errors gs (opened s))
 
-module _ (gates img : List ℕ) (at : ℕ) (h : at < length img) (t : ℕ) (et : t ≡ get_or img at 0) (p : List ℕ) (ep : p ≡ load_at img at) (n : ℕ) (en : n ≡ next_in img at)
-    (i j : Bool) (ej : j ≡ then i t p) (b : List ℕ) (s : Sink) where
+module _ (gates img : List ℕ) (w₀ : Writer) (s t : Fields) (f : Field) (w : Writer) (o : DefsOwed gates img w₀ s w) (k : Passes s f t) where
   -- nothing told, whatever the gates are
-  def_on : ((gs : List Gate) → defs gs img i at ≡ defs gs img j n) → DefMoves gates img i at b s b (record { next = n; inside = j; sink = s })
-  def_on q = record { moves = λ gs heads. moves_on (defs gs img) img i at b s j n h en (q gs); on = omega arith; within = omega arith }
+  def_on : ((gs : List Gate) → def_errors gs (opened s) ≡ def_errors gs (opened t)) → DefsOwed gates img w₀ t w
+  def_on q = record { whole = ap (λ x. x.now) k.img ∙ o.whole; same = o.same; owes = λ gs heads. owes_less error_field (o.owes gs heads) (q gs) (puts_none error_field w) }
 
-  pub def_inside : i ≡ true → DefMoves gates img i at b s b (record { next = n; inside = j; sink = s })
-  def_inside e = def_on (λ gs. rw (ej, e) (ap (def_errors gs) (inside_here img at t n p h et ep en)))
-
-  pub def_other : i ≡ false → (t ≡ 5 → ⊥) → DefMoves gates img i at b s b (record { next = n; inside = j; sink = s })
-  unfolding def_errors
-  def_other e m = def_on (λ gs. rw (ej, e) (gates_skip (def_errors gs) (λ sp x ds. refl) img at t n p h et ep en (λ x ds. refl) (λ c d o ds. refl) m))
+  pub def_inside : f.inside ≡ true → DefsOwed gates img w₀ t w
+  def_inside e = def_on (λ gs. ap (def_errors gs) (stays_inside s t f k e))
 
   -- a header: its body, if it has one
-  opened : i ≡ false → t ≡ 5 → (gs : List Gate) → defs gs img i at ≡ body_errors (body_scope gs (gate_at_place p (rest img n))) (body_of j (rest img n)) ++ defs gs img j n
+  header : f.inside ≡ false → f.tag ≡ 5 → (gs : List Gate) → def_errors gs (opened s) ≡ body_errors (body_scope gs (gate_at_place f.payload.now (left t))) (body_of t.inside (left t)) ++ def_errors gs (opened t)
   unfolding def_errors gate_at_place then
-  opened e f gs = rw (ej, e, gate_here_lem img at t n p h et ep en f, f) refl
+  header e n gs = rw (head_opened s t f k, k.body, e, first_gate f.tag f.payload.now (left t) n, n) refl
 
-  pub def_opaque : i ≡ false → t ≡ 5 → j ≡ false → DefMoves gates img i at b s b (record { next = n; inside = j; sink = s })
-  def_opaque e f k = def_on (λ gs. opened e f gs ∙ (rw k refl))
+  opened_by : f.inside ≡ false → then false f.tag f.payload.now ≡ true → f.tag ≡ 5
+  unfolding then
+  opened_by e h = elim (ℕ_discrete f.tag 5) [ yes q ↦ q | no q ↦ let w : ◌≡◌ {A = Bool} false true = rw (ne_eqb f.tag 5 q) at h in absurd (subst T (sym w) tt) ]
 
-  pub def_body : i ≡ false → t ≡ 5 → j ≡ true → (b' : List ℕ) (r : Sink) → BodyChecked gates img n p b s b' r → DefMoves gates img i at b s b' (record { next = n; inside = j; sink = r })
-  def_body e f k b' r w = record {
-    moves = λ gs heads. record {
-      told = stmts_errors (body_scope gs (gate_at_place p (rest img n))) (stmts false (rest img n));
-      said = w.said gs heads;
-      owed = opened e f gs ∙ (rw k refl);
-      on = omega arith;
-      within = omega arith;
-    };
-    on = omega arith;
-    within = omega arith;
-  }
+  pub def_body : f.inside ≡ false → (b : Bool) → b ≡ then false f.tag f.payload.now → b ≡ true → (w' : Writer) → BodyChecked gates img f.place f.payload.now w w' → DefsOwed gates img w₀ t w'
+  def_body e b eb h w' x =
+      let there : rest img (next_in img f.place) ≡ left t = rw (k.place, ← o.whole, ← k.next, k.img) refl in
+      let n : f.tag ≡ 5 = opened_by e (sym eb ∙ h) in
+      let open' : t.inside ≡ true = k.body ∙ (rw e (sym eb ∙ h)) in
+      record {
+        whole = ap (λ x. x.now) k.img ∙ o.whole;
+        same = x.same ∙ o.same;
+        owes = λ gs heads.
+            let p : List ℕ = f.payload.now in
+            let owed : def_errors gs (opened s) ≡ stmts_errors (body_scope gs (gate_at_place p (left t))) (stmts false (left t)) ++ def_errors gs (opened t) = header e n gs ∙ (rw open' refl) in
+            let said : Says w (stmts_errors (body_scope gs (gate_at_place p (left t))) (stmts false (left t))) w' =
+            subst (λ l. Says w (stmts_errors (body_scope gs (gate_at_place p l)) (stmts false l)) w') there (x.said gs heads) in
+            owes_less error_field (o.owes gs heads) owed said;
+      }
 
--- what is owed whatever the gates are
-abbrev pub DefsOwed : (gates img b₀ : List ℕ) → Sink → List ℕ → Sink → Bool → ℕ → Type 0
-DefsOwed gates img b₀ s₀ b s i at = (gs : List Gate) → Heads gs gates → Owes error_field b₀ s₀ (defs gs img false 0) b s (defs gs img i at)
+  pub def_other : f.inside ≡ false → (b : Bool) → b ≡ then false f.tag f.payload.now → b ≡ false → DefsOwed gates img w₀ t w
+  unfolding def_errors
+  def_other e b eb h = elim (ℕ_discrete f.tag 5) [
+    | yes n ↦ let open' : t.inside ≡ false = k.body ∙ (rw e (sym eb ∙ h)) in def_on (λ gs. header e n gs ∙ (rw open' refl))
+    | no n ↦ def_on (λ gs. rw (head_opened s t f k, k.body, e) (first_not_gate (def_errors gs) (λ sp x ds. refl) f.tag f.payload.now (left t) (λ x ds. refl) (λ c d o ds. refl) n))
+  ]
 
-pub defs_moved : (gates img b₀ : List ℕ) (s₀ : Sink) (i : Bool) (at : ℕ) (b : List ℕ) (s : Sink) (b' : List ℕ) (r : Step) → DefsOwed gates img b₀ s₀ b s i at
-    → DefMoves gates img i at b s b' r → DefsOwed gates img b₀ s₀ b' r.sink r.inside r.next
-defs_moved gates img b₀ s₀ i at b s b' r h m gs heads = moved (defs gs img) img i at b s b' r b₀ s₀ _ (h gs heads) (m.moves gs heads)
+pub defs_done : (gates img : List ℕ) (w₀ : Writer) (s t : Fields) (w : Writer) → DefsOwed gates img w₀ s w → Over s t → DefsSaid gates img w₀ w
+unfolding def_errors
+defs_done gates img w₀ s t w o k = record { same = o.same; said = λ gs heads. owes_none error_field (o.owes gs heads) (rw (none_opened s t k) refl) }

@@ -1,11 +1,6 @@
 -- What a call at the boundary leaves.
 use Rattle.std.specs.Prelude.{◌≡◌, List, ◌++◌, ℕ, ◌<◌, ◌≤◌, length, drop}
-use Rattle.rules.specs.declared.Answer.{Answer}
 use Rattle.rules.specs.Answers.{Result, answer_bytes}
-
--- an answer's 24 bytes at the front of a slice that has room for them
-pub record Laid (a : Answer) (s s' : List ℕ) : Type 0 where
-  pub front : length s ≤ 18446744073709551615 → 24 ≤ length s → s' ≡ answer_bytes a ++ drop 24 s
 
 -- A slice of fewer than 24 bytes: the call changes nothing at all. Else the result's buffer and its answer's bytes; those past 24 stay.
 pub record Called (x : Result) (out answer out' answer' : List ℕ) : Type 0 where

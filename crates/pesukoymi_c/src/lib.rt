@@ -1,4 +1,5 @@
-// The archive: the boundary's functions under C's calling convention. Each calls the one of its name in `pesukoymi` and states its clauses again.
+// The archive: the boundary's functions under C's calling convention, one for each name that C links. Each calls the one of its name in `pesukoymi` and
+// states its clauses again.
 #![tactic(auto)]
 
 ghost use Rattle.rules.specs.Answers.{check as checked, order as ordered, expand as expanded};

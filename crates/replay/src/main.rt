@@ -2,134 +2,60 @@
 // (`-` for none) and the number of recursion groups. It checks each image and tells how many cases there are and how many agree.
 #![tactic(auto)]
 
-ghost use Rattle.std.specs.Prelude.{◌≡◌, get_or};
-ghost use Rattle.views.specs.View.{next_in};
-
 use checks::check;
 use rules::Answer;
 use std::io;
-use texts::{at, number, read_full, step, unhex, until};
-use walker::{front, next, tag};
+use texts::{at, cut, decimal, hex, read_full, try_each, written};
+use walker::Reader;
 
-// Whether two slices have the same first `n` bytes.
-fn same_start(a: &[u8], b: &[u8], n: usize) -> bool {
-    let mut i = 0;
-    while i < n {
-        if at(a, i) != at(b, i) {
+// Whether from the reader to `end` stand just so many fields of recursion: error fields are headed as an image's fields are, so the image's reader
+// reads them. What it reads goes on behind `end`, so that a last field that is too long is seen.
+fn recursions(mut fields: Reader<'_>, end: usize, groups: usize) -> bool {
+    for _ in 0..groups {
+        if end <= fields.at || fields.tag() != 4 {
             return false;
         }
-        i += 1;
+        fields = fields.next();
     }
-    true
+    fields.at == end
 }
 
-// The kind of the first error field: error fields are headed as an image's fields are, so the image's reader reads them.
-fn kind(fields: &[u8]) -> u64
-    ensures { result ≡ get_or fields.now 0 0 }
-{
-    tag(front(fields))
-}
-
-// The place after it.
-fn behind(fields: &[u8]) -> usize
-    ensures { result ≡ next_in fields.now 0 }
-{
-    let r = next(front(fields));
-    r.at
-}
-
-// Whether between two places stand just so many fields of recursion.
-fn recursions(out: &[u8], from: usize, to: usize, groups: usize) -> bool {
-    if out.len() < to {
+// Whether the error fields written, the first `bytes` of `out`, are the first `n` bytes of `expected` and behind them fields of recursion. A byte past
+// the end of `expected` counts as 0.
+fn fields_agree(out: &[u8], bytes: usize, expected: &[u8], n: usize, groups: usize) -> bool {
+    if bytes == 0 || bytes < n || out.len() < bytes {
         return false;
     }
-    let mut p = from;
-    let mut n = 0;
-    while p < to {
-        // what is read goes on behind `to`, so that a last field that is too long is seen
-        let rest = &out[p..];
-        if kind(rest) != 4 {
-            return false;
-        }
-        p += behind(rest);
-        n = step(n, 100000);
-    }
-    p == to && n == groups
-}
-
-// Whether the error fields written are those expected.
-fn fields_agree(out: &[u8], bytes: usize, expected: &[u8], n: usize, groups: usize) -> bool {
-    0 < bytes && n <= bytes && same_start(out, expected, n) && recursions(out, n, bytes, groups)
+    (0..n).all(|i| at(out, i) == at(expected, i))
+        && recursions(Reader { image: out, at: n }, bytes, groups)
 }
 
 // Whether the check of an image answers what is expected.
 fn agrees(image: &[u8], expected: &[u8], n: usize, groups: usize) -> bool {
     let mut out = [0u8; 65536];
-    let a = check(image, &mut out);
-    match a {
-        Answer::Done { items: _, bytes: _ } => n == 0 && groups == 0,
-        Answer::Errors { errors: _, bytes } => fields_agree(&out, bytes, expected, n, groups),
-        Answer::Refused {
-            number: _,
-            offset: _,
-        } => false,
-        Answer::Rejected => false,
-        Answer::Machine => false,
-        Answer::Entries => false,
-        Answer::Room { items: _, bytes: _ } => false,
+    match check(image, &mut out) {
+        Answer::Done { .. } => n == 0 && groups == 0,
+        Answer::Errors { bytes, .. } => fields_agree(&out, bytes, expected, n, groups),
+        _ => false,
     }
 }
 
-// The same of an image that is the first bytes of a buffer.
-fn part_agrees(image: &[u8], bytes: usize, expected: &[u8], n: usize, groups: usize) -> bool {
-    if bytes <= image.len() {
-        agrees(&image[..bytes], expected, n, groups)
-    } else {
-        false
-    }
-}
-
-// The bytes that a word of hex digits or `-` stands for.
-fn word(s: &[u8], from: usize, to: usize, out: &mut [u8]) -> usize {
-    if at(s, from) == b'-' {
-        0
-    } else {
-        unhex(s, from, to, out, 0)
-    }
-}
-
-// Whether the case between two places agrees.
-fn case_agrees(s: &[u8], from: usize, to: usize) -> bool {
-    let first = until(s, from, to, b' ');
-    let second = until(s, step(first, to), to, b' ');
-    let mut image = [0u8; 4096];
-    let bytes = word(s, from, first, &mut image);
+// Whether the case on a line agrees.
+fn case_agrees(line: &[u8]) -> bool {
+    let (image, rest) = cut(line, b' ');
+    let (errors, groups) = cut(rest, b' ');
+    let mut bytes = [0u8; 4096];
+    let len = hex(written(image), &mut bytes, 0);
     let mut expected = [0u8; 4096];
-    let n = word(s, step(first, to), second, &mut expected);
-    part_agrees(&image, bytes, &expected, n, number(s, second, to))
-}
-
-fn tell(rt: &impl Print, cases: usize, right: usize) -> io::Result<()> {
-    println!(rt; "{cases} cases, {right} as the Rust answered")
-}
-
-fn replay(rt: &impl Print, s: &[u8]) -> io::Result<()> {
-    let mut cases = 0;
-    let mut right = 0;
-    let mut p = 0;
-    while p < s.len() {
-        let end = until(s, p, s.len(), b'\n');
-        if case_agrees(s, p, end) {
-            right = step(right, 1000000);
-        }
-        cases = step(cases, 1000000);
-        p = step(end, s.len());
-    }
-    tell(rt, cases, right)
+    let n = hex(written(errors), &mut expected, 0);
+    bytes
+        .get(..len)
+        .is_some_and(|image| agrees(image, &expected, n, decimal(groups)))
 }
 
 fn main(rt: HostRuntime) -> io::Result<()> {
-    let mut text = [0u8; 262144];
+    let mut text = [0u8; 262144]; // a buffer beside its count, since there is no heap
     let n = read_full(&mut rt.stdin(), &mut text)?;
-    replay(&rt, &text[..n])
+    let told = try_each(&text[..n], case_agrees);
+    println!(rt; "{told} as the Rust answered")
 }

@@ -2,119 +2,65 @@
 // (0 where it is read) and the offset. It reads each image and tells how many cases there are and how many agree.
 #![tactic(auto)]
 
-use image::{Verdict, read_image};
-use output::put1;
+use image::read_image;
 use std::io;
-use texts::{at, number, read_full, step, unhex, until};
+use texts::{cut, decimal, hex, read_full, try_each, written};
 
-// Puts the bytes between two places of `out` there once more, from `n` on, and answers the place after them.
-fn again(out: &mut [u8], from: usize, to: usize, n: usize) -> usize {
-    let mut m = n;
-    let mut i = from;
-    while i < to {
-        let b = at(out, i);
-        m = put1(out, m, b);
-        i += 1;
-    }
-    m
-}
-
-// Has the bytes between two places of `out` stand there so many times, and answers the place after them.
+// Has the bytes between two places of `out` stand there so many times, as far as they fit, and answers the place after them.
 fn repeated(out: &mut [u8], from: usize, to: usize, times: usize) -> usize {
-    let mut m = to;
-    let mut k = 1;
-    while k < times {
-        m = again(out, from, to, m);
-        k += 1;
+    let len = to.saturating_sub(from);
+    let end = len
+        .saturating_mul(times.saturating_sub(1))
+        .saturating_add(to);
+    for i in to..end.min(out.len()) {
+        out[i] = out[i - len];
     }
-    m
+    end
 }
 
 // One segment of an image: hex digits, and where `*` follows them the number of times.
-fn segment(s: &[u8], from: usize, to: usize, out: &mut [u8], n: usize) -> usize {
-    let star = until(s, from, to, b'*');
-    let m = unhex(s, from, star, out, n);
-    if star < to {
-        repeated(out, n, m, number(s, star, to))
+fn segment(s: &[u8], out: &mut [u8], n: usize) -> usize {
+    let (digits, times) = cut(s, b'*');
+    let m = hex(digits, out, n);
+    if digits.len() < s.len() {
+        repeated(out, n, m, decimal(times))
     } else {
         m
     }
 }
 
-// The image of the segments between two places, and its length.
-fn segments(s: &[u8], from: usize, to: usize, out: &mut [u8]) -> usize {
+// The image of the segments of a word, and its length.
+fn segments(word: &[u8], out: &mut [u8]) -> usize {
     let mut n = 0;
-    let mut p = from;
-    while p < to {
-        let end = until(s, p, to, b'.');
-        n = segment(s, p, end, out, n);
-        p = step(end, to);
+    for s in word.split(|b| *b == b'.') {
+        n = segment(s, out, n);
     }
     n
 }
 
-// The image that a word stands for, and its length.
-fn word(s: &[u8], from: usize, to: usize, out: &mut [u8]) -> usize {
-    if at(s, from) == b'-' {
-        0
-    } else {
-        segments(s, from, to, out)
-    }
-}
-
 // Whether the reading of an image answers what is expected.
 fn agrees(img: &[u8], number: usize, offset: usize) -> bool {
-    let read = read_image(img);
-    let v = read.verdict;
-    match v {
-        Verdict::Read => number == 0 && offset == 0,
-        Verdict::Refused {
-            number: k,
-            offset: o,
-        } => number != 0 && k == number as u64 && o == offset,
+    match read_image(img) {
+        Ok(_) => number == 0 && offset == 0,
+        // (a u64 of a usize has no From)
+        Err(refused) => u64::from(refused.fault) == number as u64 && refused.offset == offset,
     }
 }
 
-// The same of an image that is the first bytes of a buffer.
-fn part_agrees(img: &[u8], bytes: usize, number: usize, offset: usize) -> bool {
-    if bytes <= img.len() {
-        agrees(&img[..bytes], number, offset)
-    } else {
-        false
-    }
-}
-
-// Whether the case between two places agrees.
-fn case_agrees(s: &[u8], from: usize, to: usize) -> bool {
-    let first = until(s, from, to, b' ');
-    let second = until(s, step(first, to), to, b' ');
+// Whether the case on a line agrees.
+fn case_agrees(line: &[u8]) -> bool {
+    let (word, rest) = cut(line, b' ');
+    let (number, offset) = cut(rest, b' ');
     // the longest image of the list is one field over the 65,536 bytes; a longer one would not agree, since it doesn't fit
     let mut img = [0u8; 65544];
-    let bytes = word(s, from, first, &mut img);
-    part_agrees(&img, bytes, number(s, first, second), number(s, second, to))
-}
-
-fn tell(rt: &impl Print, cases: usize, right: usize) -> io::Result<()> {
-    println!(rt; "{cases} cases, {right} as document 01 says")
-}
-
-fn reread(rt: &impl Print, s: &[u8]) -> io::Result<()> {
-    let mut cases = 0;
-    let mut right = 0;
-    let mut p = 0;
-    while p < s.len() {
-        let end = until(s, p, s.len(), b'\n');
-        if case_agrees(s, p, end) {
-            right = step(right, 1000000);
-        }
-        cases = step(cases, 1000000);
-        p = step(end, s.len());
-    }
-    tell(rt, cases, right)
+    let len = segments(written(word), &mut img);
+    img.get(..len)
+        .is_some_and(|image| agrees(image, decimal(number), decimal(offset)))
 }
 
 fn main(rt: HostRuntime) -> io::Result<()> {
-    let mut text = [0u8; 131072];
+    let mut text = [0u8; 131072]; // a buffer beside its count, since there is no heap
     let n = read_full(&mut rt.stdin(), &mut text)?;
-    reread(&rt, &text[..n])
+    let told = try_each(&text[..n], case_agrees);
+    println!(rt; "{told} as document 01 says")
 }

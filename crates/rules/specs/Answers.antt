@@ -1,6 +1,8 @@
 -- What each service answers and leaves in the lent buffer, from the image and the buffer at entry alone.
 use Rattle.std.specs.Prelude.{ℕ, List, [], ◌∷◌, ◌++◌, map, Bool, true, false, ◌||◌, length, drop, ltb, eqb}
 use Rattle.rules.specs.declared.Answer.{Answer}
+use Rattle.rules.specs.declared.Fault.{Fault}
+use Rattle.rules.specs.declared.Fault.TheVariants.{TooLong, Cut, BadTag, BadItem, BadName, TooMany}
 use Rattle.rules.specs.declared.Answer.TheVariants.{Done, Errors, Refused, Rejected, Machine, Entries, Room}
 use Rattle.rules.specs.Basics.{pick}
 use Rattle.rules.specs.Syntax.{Program}
@@ -13,10 +15,18 @@ use Rattle.rules.specs.Run.{Out, stuck, done, Entry, entry_field, bits_of, run_o
 
 -- ---- 01's table: the number and the two values of each answer
 
+abbrev pub fault_number : Fault → ℕ
+fault_number TooLong = 2
+fault_number Cut = 3
+fault_number BadTag = 4
+fault_number BadItem = 5
+fault_number BadName = 6
+fault_number TooMany = 7
+
 abbrev pub number : Answer → ℕ
 number (Done items bytes) = 0
 number (Errors errors bytes) = 1
-number (Refused k offset) = k
+number (Refused k offset) = fault_number k
 number Rejected = 8
 number Machine = 9
 number Entries = 10

@@ -1,6 +1,5 @@
 -- The calls of a program, and the recursion errors: the last part of the error list.
-use Rattle.std.specs.Prelude.{ℕ, List, [], ◌∷◌, ◌++◌, map, Bool, false, ◌&&◌, ◌||◌, length, eqb}
-use Rattle.std.proofs.Math.Option.{Option, none, some}
+use Rattle.std.specs.Prelude.{ℕ, List, [], ◌∷◌, ◌++◌, map, Bool, false, ◌&&◌, ◌||◌, length, eqb, Option, Some, None}
 use Rattle.rules.specs.Basics.{pick}
 use Rattle.rules.specs.Syntax.{Stmt, u, cx, measure, reset, barrier, call, if, missing, Gate, Decl, include, reg, gate, top, Program}
 use Rattle.rules.specs.Errors.{Error, recursive_definition}
@@ -31,8 +30,8 @@ stmts_calls gs g [] = []
 stmts_calls gs g (s ∷ ss) = stmt_calls gs g s ++ stmts_calls gs g ss
 
 abbrev pub body_calls : List Gate → (from : ℕ) → Option (List Stmt) → List Call
-body_calls gs g none = []
-body_calls gs g (some ss) = stmts_calls gs g ss
+body_calls gs g None = []
+body_calls gs g (Some ss) = stmts_calls gs g ss
 
 -- in image order. 01: of a redefined gate, "its calls count as the first entry's"
 unfoldable pub decl_calls : List Gate → List Decl → List Call

@@ -1,23 +1,19 @@
 -- The error list up to recursion. Each rule of 01's 'The error list' is a definition of its own; the names are those of typing.rs.
-use Rattle.std.specs.Prelude.{ℕ, ◌^◌, List, [], ◌∷◌, ◌++◌, map, Bool, true, false, not, ◌&&◌, ◌||◌, length, get_or, ltb, leb, eqb}
+use Rattle.std.specs.Prelude.{ℕ, ◌^◌, List, [], ◌∷◌, ◌++◌, map, Bool, true, false, not, ◌&&◌, ◌||◌, length, get_or, ltb, leb, eqb, Option, Some, None}
 use Rattle.std.specs.Bool.{beq}
-use Rattle.std.proofs.Math.Option.{Option, none, some}
 use Rattle.rules.specs.declared.Operand.{Operand}
 use Rattle.rules.specs.declared.Header.{Header}
-use Rattle.rules.specs.declared.FoundGate.{FoundGate}
-use Rattle.rules.specs.declared.FoundGate.TheVariants.{Known, Unknown}
 use Rattle.rules.specs.declared.Match.{Match}
 use Rattle.rules.specs.declared.Reg.{Reg}
-use Rattle.rules.specs.declared.Found.{Found}
-use Rattle.rules.specs.declared.Found.TheVariants.{Row, Nothing}
 use Rattle.rules.specs.Basics.{pick, first}
-use Rattle.rules.specs.Syntax.{Expr, pi, real, int, var, two, one, Named, Stmt, u, cx, measure, reset, barrier, call, if, missing, Gate, Decl, include, reg, gate, top, Program}
+use Rattle.rules.specs.declared.Named.{Named}
+use Rattle.rules.specs.Syntax.{Expr, pi, real, int, var, two, one, Stmt, u, cx, measure, reset, barrier, call, if, missing, Gate, Decl, include, reg, gate, top, Program}
 use Rattle.rules.specs.Errors.{Error, redefined_gate, redefined_argument, redefined_parameter, zero_size_register, redefined_register, undefined_parameter, invalid_comparison_size, wrong_argument_arity, wrong_parameter_arity, undefined_gate, wrong_operand_size, invalid_register_index, wrong_register_type, undefined_register}
 
 -- ---- gates. 01: "gates are numbered by first entries"
 
 abbrev pub no_gate : Gate
-no_gate = record { decl = 0; span = 0; name = 0; params = []; args = []; body = none }
+no_gate = record { decl = 0; span = 0; name = 0; params = []; args = []; body = None }
 
 abbrev pub gate_at : List Gate → ℕ → Gate
 gate_at gs i = get_or gs i no_gate
@@ -33,8 +29,8 @@ abbrev pub header_of : List Gate → ℕ → Header
 header_of gs i = record { number = i; params = length (gate_at gs i).params; args = length (gate_at gs i).args; decl = (gate_at gs i).decl }
 
 -- what is known of a gate by its name
-unfoldable pub header : List Gate → ℕ → FoundGate
-header gs x = pick (is_gate gs x) (Known (header_of gs (number_of gs x))) Unknown
+unfoldable pub header : List Gate → ℕ → Option Header
+header gs x = pick (is_gate gs x) (Some (header_of gs (number_of gs x))) None
 
 -- g is entered unless its name is
 unfoldable pub entered : List Gate → Gate → List Gate
@@ -54,13 +50,13 @@ gates_of p = entries [] p.decls
 -- ---- names
 
 -- the latest row with this name
-abbrev pub later : Found → Found → Found
-later (Row r) f = Row r
-later Nothing f = f
+abbrev pub later : Option Reg → Option Reg → Option Reg
+later (Some r) f = Some r
+later None f = f
 
-unfoldable pub latest : List Reg → ℕ → Found
-latest [] x = Nothing
-latest (r ∷ rs) x = later (latest rs x) (pick (eqb r.name x) (Row r) Nothing)
+unfoldable pub latest : List Reg → ℕ → Option Reg
+latest [] x = None
+latest (r ∷ rs) x = later (latest rs x) (pick (eqb r.name x) (Some r) None)
 
 -- 01: "Inside a body only arguments exist, quantum, size 1". "Definition spans: .. an argument's span."
 abbrev pub argument : Named → Reg
@@ -87,8 +83,8 @@ is_param (p ∷ ps) x = eqb p.name x || is_param ps x
 
 -- what names mean where a statement stands
 pub record Scope : Type 0 where
-  pub gates : ℕ → FoundGate
-  pub regs : ℕ → Found
+  pub gates : ℕ → Option Header
+  pub regs : ℕ → Option Reg
   pub params : ℕ → Bool
 
 -- 01: "There are none at top level."
@@ -100,9 +96,9 @@ body_scope gs g = record { gates = header gs; regs = latest (map argument g.args
 
 -- ---- gate headers: collect_decls
 
-abbrev pub repeated : (ℕ → ℕ → ℕ → ℕ → Error) → ℕ → Found → Named → List Error
-repeated kind decl Nothing a = []
-repeated kind decl (Row r) a = kind a.span a.name decl r.span ∷ []
+abbrev pub repeated : (ℕ → ℕ → ℕ → ℕ → Error) → ℕ → Option Reg → Named → List Error
+repeated kind decl None a = []
+repeated kind decl (Some r) a = kind a.span a.name decl r.span ∷ []
 
 -- 01: "Repeated arguments, then parameters: the previous span is that of the latest earlier one."
 unfoldable pub repeats : (ℕ → ℕ → ℕ → ℕ → Error) → (decl : ℕ) → (seen : List Reg) → List Named → List Error
@@ -110,9 +106,9 @@ repeats kind decl seen [] = []
 repeats kind decl seen (a ∷ l) = repeated kind decl (latest seen a.name) a ++ repeats kind decl (seen ++ (argument a ∷ [])) l
 
 -- 01: "A gate name seen before: kind 1 with the first entry's span; its repeated names aren't reported"
-abbrev pub header_errors : FoundGate → Gate → List Error
-header_errors (Known h) g = redefined_gate g.span g.name g.decl h.decl ∷ []
-header_errors Unknown g = repeats redefined_argument g.decl [] g.args ++ repeats redefined_parameter g.decl [] g.params
+abbrev pub header_errors : Option Header → Gate → List Error
+header_errors (Some h) g = redefined_gate g.span g.name g.decl h.decl ∷ []
+header_errors None g = repeats redefined_argument g.decl [] g.args ++ repeats redefined_parameter g.decl [] g.params
 
 unfoldable pub decl_errors : (before : List Gate) → List Decl → List Error
 decl_errors gs [] = []
@@ -123,9 +119,9 @@ decl_errors gs (top s ∷ ds) = decl_errors gs ds
 
 -- ---- registers: collect_regs
 
-abbrev pub redeclared : Found → Operand → ℕ → List Error
-redeclared Nothing o decl = []
-redeclared (Row r) o decl = redefined_register o decl r.span ∷ []
+abbrev pub redeclared : Option Reg → Operand → ℕ → List Error
+redeclared None o decl = []
+redeclared (Some r) o decl = redefined_register o decl r.span ∷ []
 
 -- 01: "Register: kind 5 for size 0, then kind 6 with the latest earlier one's operand span; the later one wins, size 0 included."
 unfoldable pub register_errors : (before : List Reg) → (decl : ℕ) → Operand → List Error
@@ -165,20 +161,20 @@ index_size r stmt o =
     (size r.size)
 
 -- 01: "Operand: kind 15, then 14, then 13 unless index < size."; "kind 14's bool is 1 where classical was wanted"
-abbrev pub found_size : Found → (stmt : ℕ) → Asked → Sized
-found_size Nothing stmt q = bad (undefined_register q.operand.name q.operand.span stmt)
-found_size (Row r) stmt q =
+abbrev pub found_size : Option Reg → (stmt : ℕ) → Asked → Sized
+found_size None stmt q = bad (undefined_register q.operand.name q.operand.span stmt)
+found_size (Some r) stmt q =
     pick (beq r.classical q.classical) (index_size r stmt q.operand)
     (bad (wrong_register_type q.operand.name r.span stmt q.operand.span q.classical))
 
-unfoldable pub assert_reg : (ℕ → Found) → (stmt : ℕ) → Asked → Sized
+unfoldable pub assert_reg : (ℕ → Option Reg) → (stmt : ℕ) → Asked → Sized
 assert_reg find stmt q = found_size (find q.operand.name) stmt q
 
 abbrev pub sized_errors : Sized → List Error
 sized_errors (size n) = []
 sized_errors (bad e) = e ∷ []
 
-unfoldable pub operand_errors : (ℕ → Found) → (stmt : ℕ) → List Asked → List Error
+unfoldable pub operand_errors : (ℕ → Option Reg) → (stmt : ℕ) → List Asked → List Error
 operand_errors find stmt [] = []
 operand_errors find stmt (q ∷ qs) = sized_errors (assert_reg find stmt q) ++ operand_errors find stmt qs
 
@@ -199,7 +195,7 @@ differs m stmt (bad e) span = []
 differs m stmt (size n) span =
     pick (ltb 1 n && not (eqb n m.size)) (wrong_operand_size stmt span n m.span m.size ∷ []) []
 
-unfoldable pub match_errors : (ℕ → Found) → (stmt : ℕ) → Match → List Asked → List Error
+unfoldable pub match_errors : (ℕ → Option Reg) → (stmt : ℕ) → Match → List Asked → List Error
 match_errors find stmt m [] = []
 match_errors find stmt m (q ∷ qs) =
     let now = fixed m (assert_reg find stmt q) q.operand.span in
@@ -236,14 +232,14 @@ compare_errors (size n) stmt o vs v = pick (leb (2 ^ n) v) (invalid_comparison_s
 abbrev pub len_errors : (arity actual : ℕ) → (ℕ → ℕ → Error) → List Error
 len_errors arity actual kind = pick (eqb arity actual) [] (kind arity actual ∷ [])
 
-abbrev pub arity_errors : FoundGate → (stmt name_span name params args : ℕ) → List Error
-arity_errors Unknown stmt name_span name params args = undefined_gate name_span name stmt ∷ []
-arity_errors (Known h) stmt name_span name params args =
+abbrev pub arity_errors : Option Header → (stmt name_span name params args : ℕ) → List Error
+arity_errors None stmt name_span name params args = undefined_gate name_span name stmt ∷ []
+arity_errors (Some h) stmt name_span name params args =
     len_errors h.params params (wrong_parameter_arity stmt h.decl name) ++ len_errors h.args args (wrong_argument_arity stmt h.decl name)
 
 -- ---- statements: check_stmt. 01: "U, RESET, BARRIER and IF don't match."
 
-abbrev pub matched : (ℕ → Found) → (stmt : ℕ) → List Asked → List Error
+abbrev pub matched : (ℕ → Option Reg) → (stmt : ℕ) → List Asked → List Error
 matched find stmt qs = operand_errors find stmt qs ++ match_errors find stmt unfixed qs
 
 -- 01: "U: operand, then expressions. CALL: kind 11, or 10 then 9; then operands, matching, expressions."; "IF: operand, governed statement, then kind 8"
@@ -273,8 +269,8 @@ top_errors C (gate g ∷ ds) = top_errors C ds
 top_errors C (top s ∷ ds) = stmt_errors C s ++ top_errors C ds
 
 abbrev pub body_errors : Scope → Option (List Stmt) → List Error
-body_errors C none = []
-body_errors C (some ss) = stmts_errors C ss
+body_errors C None = []
+body_errors C (Some ss) = stmts_errors C ss
 
 -- 01: "its body is still checked with its own names": each GATE field's, first entry or not
 unfoldable pub def_errors : List Gate → List Decl → List Error

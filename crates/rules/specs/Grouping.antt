@@ -1,6 +1,6 @@
 -- The program that the fields of an image make up: a gate with its body's statements, an IF with what it governs. Nothing is refused here.
-use Rattle.std.specs.Prelude.{ℕ, List, [], ◌∷◌, Bool, true, false}
-use Rattle.std.proofs.Math.Option.{Option, none, some}
+use Rattle.std.specs.Prelude.{ℕ, List, [], ◌∷◌, Bool, true, false, Option, Some, None}
+use Rattle.rules.specs.declared.Fault.{Fault}
 use Rattle.rules.specs.Basics.{pick}
 use Rattle.rules.specs.Syntax.{Stmt, if, missing, Decl, include, reg, gate, top, Program, Field, name_f, include_f, reg_f, gate_f, end_f, stmt_f, if_f}
 use Rattle.rules.specs.Reading.{Fields, refused, fields, scan}
@@ -33,7 +33,7 @@ stmts b (stmt_f s ∷ l) = begin b s (stmts false l)
 stmts b (if_f sp o vs v ∷ l) = begin b (if sp o vs v (stmt l)) (stmts true l)
 
 abbrev pub body_of : Bool → List Field → Option (List Stmt)
-body_of b l = pick b (some (stmts false l)) none
+body_of b l = pick b (Some (stmts false l)) None
 
 -- is a body still open after the field?
 unfoldable pub open_after : Field → Bool
@@ -74,7 +74,7 @@ group l = record { names = names l; decls = decls false false l }
 -- ---- what an image means: a program, or the refusal's number and offset
 
 pub data Reading : Type 0 where
-  refuses : (number offset : ℕ) → Reading
+  refuses : (fault : Fault) (offset : ℕ) → Reading
   program : Program → Reading
 
 unfoldable pub grouped : Fields → Reading

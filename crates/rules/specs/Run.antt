@@ -1,9 +1,7 @@
 -- The run of a program: its entries, or stuck.
-use Rattle.std.specs.Prelude.{ℕ, zero, suc, ◌+◌, ◌^◌, List, [], ◌∷◌, ◌++◌, map, Bool, true, false, ◌&&◌, ◌||◌, length, get_or, ltb, leb, eqb}
-use Rattle.std.proofs.Math.Option.{Option, none, some}
+use Rattle.rules.specs.declared.Header.{Header}
+use Rattle.std.specs.Prelude.{ℕ, zero, suc, ◌+◌, ◌^◌, List, [], ◌∷◌, ◌++◌, map, Bool, true, false, ◌&&◌, ◌||◌, length, get_or, ltb, leb, eqb, Option, Some, None}
 use Rattle.rules.specs.declared.Operand.{Operand}
-use Rattle.rules.specs.declared.FoundGate.{FoundGate}
-use Rattle.rules.specs.declared.FoundGate.TheVariants.{Known, Unknown}
 use Rattle.rules.specs.declared.Reg.{Reg}
 use Rattle.rules.specs.Basics.{pick}
 use Rattle.rules.specs.Syntax.{Expr, pi, real, int, var, two, one, Stmt, u, cx, measure, reset, barrier, call, if, missing, Gate, Decl, include, reg, gate, top, Program}
@@ -57,8 +55,8 @@ guard true o = o
 guard false o = stuck
 
 abbrev pub with : {A : Type 0} → Option A → (A → Out) → Out
-with none f = stuck
-with (some x) f = f x
+with None f = stuck
+with (Some x) f = f x
 
 -- f j, f (j + 1), .. : k of them
 unfoldable pub turns : ℕ → ℕ → (ℕ → Out) → Out
@@ -102,17 +100,17 @@ start_of P o = P.bit o.name + pick o.indexed o.index 0
 -- ---- sizes and pairing, by the operand rule of check
 
 abbrev pub size_only : Sized → Option ℕ
-size_only (size n) = some n
-size_only (bad e) = none
+size_only (size n) = Some n
+size_only (bad e) = None
 
 abbrev pub and_sizes : Option ℕ → Option (List ℕ) → Option (List ℕ)
-and_sizes none l = none
-and_sizes (some n) none = none
-and_sizes (some n) (some l) = some (n ∷ l)
+and_sizes None l = None
+and_sizes (Some n) None = None
+and_sizes (Some n) (Some l) = Some (n ∷ l)
 
 -- 01: stuck at "an undeclared .. register .. a wrong kind; an index outside"
 unfoldable pub sizes : Scope → List Asked → Option (List ℕ)
-sizes C [] = some []
+sizes C [] = Some []
 sizes C (q ∷ qs) = and_sizes (size_only (assert_reg C.regs 0 q)) (sizes C qs)
 
 -- the common size: the first that isn't 1
@@ -162,9 +160,9 @@ barrier_qubits P (n ∷ ns) [] = []
 barrier_qubits P (n ∷ ns) (q ∷ qs) = qubits_from n (start_of P q.operand) ++ barrier_qubits P ns qs
 
 -- 01: stuck at "an undeclared gate .. a wrong count"; f is what a call of a gate comes to
-abbrev pub calling : FoundGate → (params args : ℕ) → (ℕ → Out) → Out
-calling Unknown params args f = stuck
-calling (Known h) params args f = guard (eqb h.params params && eqb h.args args) (f h.number)
+abbrev pub calling : Option Header → (params args : ℕ) → (ℕ → Out) → Out
+calling None params args f = stuck
+calling (Some h) params args f = guard (eqb h.params params && eqb h.args args) (f h.number)
 
 -- `f g qs` is what a call of gate g on the qubits qs comes to
 unfoldable pub run : (f : ℕ → List ℕ → Out) → Place → Stmt → Out
@@ -194,8 +192,8 @@ body_place gs g qs = record { scope = body_scope gs g; bit = bit_of (map argumen
 
 -- 01: "A call to a gate with a body runs the body once for each j."; "38 opaque call: name, qubits"
 abbrev pub run_body : List Gate → (f : ℕ → List ℕ → Out) → Gate → Option (List Stmt) → List ℕ → Out
-run_body gs f g none qs = done (opaque_e g.name qs ∷ [])
-run_body gs f g (some ss) qs = runs f (body_place gs g qs) ss
+run_body gs f g None qs = done (opaque_e g.name qs ∷ [])
+run_body gs f g (Some ss) qs = runs f (body_place gs g qs) ss
 
 -- 01: "The run carries an allowed call depth. It is stuck at: .. a call at depth 0."
 unfoldable pub run_gate : List Gate → (depth : ℕ) → ℕ → List ℕ → Out

@@ -1,8 +1,8 @@
 -- What an image spells: the fields, and the program that they make up. After ast/mod.rs, with 01's changed forms.
 -- A span is copied and never read. A name is the number of its NAME field.
-use Rattle.std.specs.Prelude.{ℕ, List, Bool}
-use Rattle.std.proofs.Math.Option.{Option}
+use Rattle.std.specs.Prelude.{ℕ, List, Bool, Option}
 use Rattle.rules.specs.declared.Operand.{Operand}
+use Rattle.rules.specs.declared.Named.{Named}
 
 -- 01: "0 Pi; 1 Real (4 bytes, any f32 bits); 2 Int (8); 3 Var (name); 4 Add, 5 Sub, 6 Mul, 7 Div, 8 Pow with two operands; 9 Neg,
 -- 10 Sin, 11 Cos, 12 Tan, 13 Exp, 14 Ln, 15 Sqrt with one." An operator is kept as its opcode, Real as its bits.
@@ -13,11 +13,6 @@ pub data Expr : Type 0 where
   var : (span name : ℕ) → Expr
   two : (opcode span : ℕ) → Expr → Expr → Expr
   one : (opcode span : ℕ) → Expr → Expr
-
--- a parameter or an argument of a gate
-pub record Named : Type 0 where
-  pub span : ℕ
-  pub name : ℕ
 
 -- 01: tags 16 to 22. `missing` stands for what an IF governs where no statement follows it; no image that is read has one.
 pub data Stmt : Type 0 where

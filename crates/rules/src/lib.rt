@@ -1,7 +1,8 @@
-// The types that the rules and the code share. There is no code here.
+// The types that the rules and the code share, and the number that 01 gives an answer and a refusal.
 #![tactic(auto)]
 
-// A register, or one bit of it: its name by number, and its index where it has one.
+// A register, or one bit of it: its name by number, and its index where it has one. (A flag beside the index and no Option: of bytes that are no image
+// `views` `operand_in` gives any pair of them, and `operand_bytes` writes both.)
 #[derive(Clone, Copy)]
 pub struct Operand {
     pub span: u64,
@@ -10,26 +11,26 @@ pub struct Operand {
     pub index: u64,
 }
 
-// A number that was read and the place after it, or the number of a refusal.
+// A parameter or an argument of a gate.
 #[derive(Clone, Copy)]
-pub enum Num {
-    No(u8),
-    Got(u64, usize),
+pub struct Named {
+    pub span: u64,
+    pub name: u64,
 }
 
-// An operand that was read and the place after it, or the number of a refusal.
-#[derive(Clone, Copy)]
-pub enum Opd {
-    No(u8),
-    Got(Operand, usize),
+// Why an image is refused. `specs/Answers.antt` gives 01's number of each.
+#[derive(Clone, Copy, Debug, PartialEq, Eq)]
+pub enum Fault {
+    TooLong,
+    Cut,
+    BadTag,
+    BadItem,
+    BadName,
+    TooMany,
 }
 
-// The place after something that was read, or the number of a refusal.
-#[derive(Clone, Copy)]
-pub enum Skip {
-    No(u8),
-    Next(usize),
-}
+// What was read and the place after it, or why it can't be.
+pub type Read<T> = Result<(T, usize), Fault>;
 
 // What the fields before a place leave: the counts of names, gate definitions and registers, of the IFs right before the place,
 // whether a body is open, and whether a field that is no NAME was met.
@@ -52,12 +53,6 @@ pub struct Header {
     pub decl: u64,
 }
 
-#[derive(Clone, Copy)]
-pub enum FoundGate {
-    Known(Header),
-    Unknown,
-}
-
 // What a name stands for where a statement stands: a register, or an argument of a gate.
 #[derive(Clone, Copy)]
 pub struct Reg {
@@ -65,12 +60,6 @@ pub struct Reg {
     pub span: u64,
     pub classical: bool,
     pub size: u64,
-}
-
-#[derive(Clone, Copy)]
-pub enum Found {
-    Row(Reg),
-    Nothing,
 }
 
 // What matching has fixed: a size and its span; size 1 where nothing is yet.
@@ -85,9 +74,48 @@ pub struct Match {
 pub enum Answer {
     Done { items: usize, bytes: usize },
     Errors { errors: usize, bytes: usize },
-    Refused { number: u64, offset: usize },
+    Refused { fault: Fault, offset: usize },
     Rejected,
     Machine,
     Entries,
     Room { items: usize, bytes: usize },
+}
+
+// 01's number of a refusal.
+impl From<Fault> for u64 {
+    ghost use Rattle.std.specs.Prelude.{◌≡◌};
+    ghost use Rattle.rules.specs.Answers.{fault_number};
+
+    ghost from_gives = { λ fault n. n ≡ fault_number fault };
+
+    fn from(fault: Fault) -> u64 {
+        match fault {
+            Fault::TooLong => 2,
+            Fault::Cut => 3,
+            Fault::BadTag => 4,
+            Fault::BadItem => 5,
+            Fault::BadName => 6,
+            Fault::TooMany => 7,
+        }
+    }
+}
+
+// 01's number of an answer.
+impl From<Answer> for u64 {
+    ghost use Rattle.std.specs.Prelude.{◌≡◌};
+    ghost use Rattle.rules.specs.Answers.{number};
+
+    ghost from_gives = { λ answer n. n ≡ number answer };
+
+    fn from(answer: Answer) -> u64 {
+        match answer {
+            Answer::Done { .. } => 0,
+            Answer::Errors { .. } => 1,
+            Answer::Refused { fault, .. } => u64::from(fault),
+            Answer::Rejected => 8,
+            Answer::Machine => 9,
+            Answer::Entries => 10,
+            Answer::Room { .. } => 11,
+        }
+    }
 }

@@ -1,92 +1,77 @@
--- What a turn of each loop gives.
+-- What a turn of each loop over numbers or items gives.
 use mathlib.Core.Path.{◌≡◌, refl, sym, ap, ◌∙◌}
 use mathlib.Core.List.{List, [], ◌∷◌, ◌++◌, map, append_assoc, append-nil}
-use mathlib.Core.Bool.{Bool, false}
-use Prim.Native.Nat.{ℕ, zero, suc, ◌+◌, ◌-◌, ◌*◌, ◌<◌, ◌≤◌}
+use Prim.Native.Nat.{ℕ, zero, suc, ◌+◌, ◌-◌, ◌<◌, ◌≤◌}
 use native.Mathlib.Omega.{arith}
 use native.Mathlib.Numerals.{add-one}
-use native.Mathlib.Nat.{mul-suc}
 use native.Mathlib.Decide.{ℕ_discrete}
 use borrow.Author.Tests.{eq-eqb, ne_eqb}
 use lib.Dec.{eqb}
 use lib.ListN.{length, get_or, set, take, drop, replicate, length-set, length-append, length-replicate}
 use lib.Seq.{take-suc-set, get_or-drop, get_or-set_same, get_or-set_other}
+use Rattle.rules.specs.declared.Named.{Named}
 use Rattle.rules.specs.declared.Operand.{Operand}
 use Rattle.rules.specs.Basics.{pick}
 use Rattle.rules.specs.Checking.{quantum, argument}
 use Rattle.rules.specs.Run.{Entry, entry_field}
-use Rattle.views.specs.View.{on, name_in, operand_in, named_in, row_in, row_past, args_in}
-use Rattle.views.specs.Rows.{row_more, row_none, operand_ends, named_ends, name_on}
-use Rattle.output.specs.declared.Sink.{Sink}
-use Rattle.output.specs.Sinks.{put_same, Owes}
-use Rattle.asserts.specs.Sizes.{asked}
+use Rattle.views.specs.View.{name_in, operand_in, named_in, row_in, row_past, args_in}
+use Rattle.views.specs.Rows.{operand_ends, row_length}
+use Rattle.views.specs.Items.{operands_left}
+use Rattle.views.specs.declared.Row.{Row}
+use Rattle.output.specs.declared.Writer.{Writer}
+use Rattle.output.specs.Writers.{Puts, Owes, owes_same, owes_less, owes_none}
 use Rattle.counts.specs.Sums.{size_in}
-use Rattle.run.specs.declared.Kind.{Kind}
-use Rattle.run.specs.declared.Kind.TheVariants.{Barrier}
-use Rattle.run.specs.Lines.{start_in, lane_of, lanes_in, turn_list, one_of, two_of, one_turns, two_turns, barrier_row, frame_fill, full, sees, seen}
+use Rattle.run.specs.Lines.{start_in, lane_of, lanes_in, turn_list, frame_fill, full, sees, seen}
 
 -- ---- turns
 
-pub owes_from : (b : List ℕ) (s : Sink) (all es : List Entry) → all ≡ es → Owes entry_field b s all b s es
-owes_from b s all es e = λ b' s' h. put_same entry_field h (sym e)
+-- a loop that writes f j in turn j, n turns in all, stands at w with turn j to come
+abbrev pub Turned : (f : ℕ → List Entry) (n j : ℕ) → (w₀ w : Writer) → Type 0
+Turned f n j w₀ w = Owes entry_field w₀ (turn_list n 0 f) w (turn_list (n - j) j f)
 
-module _ (n : ℕ) (f : ℕ → List Entry) where
-  pub turns_all : turn_list n 0 f ≡ turn_list (n - 0) 0 f
-  turns_all = let e : n - 0 ≡ n = omega arith in rw e refl
+module _ (f : ℕ → List Entry) (n : ℕ) where
+  pub turned_start : (w : Writer) → Turned f n 0 w w
+  turned_start w = owes_same entry_field w (let e : n - 0 ≡ n = omega arith in rw e refl)
 
-  pub turns_none : (j : ℕ) → n ≤ j → turn_list (n - j) j f ≡ []
+  turns_more : (j : ℕ) → j < n → turn_list (n - j) j f ≡ f j ++ turn_list (n - (j + 1)) (j + 1) f
   unfolding turn_list
-  turns_none j h = let e : n - j ≡ 0 = omega arith in rw e refl
+  turns_more j l = let e : n - j ≡ suc (n - (j + 1)) = omega arith in rw (e, add-one j) refl
 
-  pub turns_more : (j : ℕ) → j < n → (x : List Entry) → x ≡ f j → turn_list (n - j) j f ≡ x ++ turn_list (n - (j + 1)) (j + 1) f
+  turns_none : (j : ℕ) → n ≤ j → turn_list (n - j) j f ≡ []
   unfolding turn_list
-  turns_more j h x q = let e : n - j ≡ suc (n - (j + 1)) = omega arith in rw (e, q, add-one j) refl
+  turns_none j l = let e : n - j ≡ 0 = omega arith in rw e refl
 
-pub ones_all : (k : Kind) (start n : ℕ) → one_turns k start n ≡ turn_list (n - 0) 0 (λ j. one_of k (lane_of start n j) ∷ [])
-unfolding one_turns
-ones_all k start n = turns_all n _
+  module _ (j : ℕ) {w₀ w : Writer} (h : Turned f n j w₀ w) where
+    pub turned_more : j < n → {w₁ : Writer} → Puts entry_field w (f j) w₁ → Turned f n (j + 1) w₀ w₁
+    turned_more l = owes_less entry_field h (turns_more j l)
 
-pub twos_all : (b : Bool) (x m y n c : ℕ) → c ≡ pick (eqb m 1) n m → two_turns b x m y n ≡ turn_list (c - 0) 0 (λ j. two_of b (lane_of x m j) (lane_of y n j) ∷ [])
-unfolding two_turns
-twos_all b x m y n c e = rw (← e) (turns_all c _)
+    pub turned_over : n ≤ j → Puts entry_field w₀ (turn_list n 0 f) w
+    turned_over l = owes_none entry_field h (turns_none j l)
 
--- ---- operands in a row
+-- ---- the bits of operands, i of them stored
 
-module _ (regs bits : List ℕ) (k : ℕ) (p : List ℕ) (at : ℕ) where
-  pub barrier_none : k ≤ 0 → barrier_row regs bits (map quantum (row_in operand_in 15 k p at)) ≡ []
-  unfolding barrier_row
-  barrier_none h = rw (row_none operand_in 15 operand_ends k p at h) refl
+-- an item less, and none
+module _ (s : Row Operand) where
+  pub operands_less : (t : Row Operand) (o : Operand) → operands_left s ≡ o ∷ operands_left t → s.left ≡ t.left + 1
+  operands_less t o e =
+      let q : length (operands_left s) ≡ suc (length (operands_left t)) = ap length e in
+      omega (arith, q, row_length operand_in 15 operand_ends s.left s.bytes.now s.at, row_length operand_in 15 operand_ends t.left t.bytes.now t.at)
 
-  module _ (h : 0 < k) (o : Operand) (e : o ≡ operand_in p at) (next : ℕ) (n : next ≡ on p at 15) where
-    pub barrier_more : (b : Kind) → b ≡ Barrier → barrier_row regs bits (map quantum (row_in operand_in 15 k p at))
-        ≡ one_turns b (start_in bits o) (size_in regs (quantum o)) ++ barrier_row regs bits (map quantum (row_in operand_in 15 (k - 1) p next))
-    unfolding barrier_row
-    barrier_more b eb = rw (row_more operand_in 15 operand_ends k p at h, e, n, eb) refl
+  pub operands_over : operands_left s ≡ [] → s.left ≡ 0
+  operands_over e = let q : length (operands_left s) ≡ 0 = ap length e in omega (arith, q, row_length operand_in 15 operand_ends s.left s.bytes.now s.at)
 
--- the bits of operands, i of them stored
-module _ (regs bits : List ℕ) (k : ℕ) (p : List ℕ) (j i at : ℕ) (row : List ℕ) (len : length row ≡ 256) (all : List ℕ)
-    (h : take i row ++ lanes_in regs bits j (map quantum (row_in operand_in 15 (k - i) p at)) ≡ all) where
-  pub lanes_turn : i < k → k < 256 → (o : Operand) → o ≡ operand_in p at → (x n v : ℕ) → x ≡ start_in bits o → n ≡ size_in regs (asked false o) → v ≡ lane_of x n j → (next : ℕ) → next ≡ on p at 15
-      → take (i + 1) (set row i v) ++ lanes_in regs bits j (map quantum (row_in operand_in 15 (k - (i + 1)) p next)) ≡ all
+module _ (regs bits : List ℕ) (j : ℕ) (i : ℕ) (row : List ℕ) (os : List Operand) (all : List ℕ) where
+  pub lanes_turn : (o : Operand) → take i row ++ lanes_in regs bits j (map quantum (o ∷ os)) ≡ all → i < length row
+      → (v : ℕ) → v ≡ lane_of (start_in bits o) (size_in regs (quantum o)) j
+      → take (i + 1) (set row i v) ++ lanes_in regs bits j (map quantum os) ≡ all
   unfolding lanes_in
-  lanes_turn l few o eo x n v ex en ev next e =
-      let z : k - i - 1 ≡ k - suc i = omega arith in
-      let s : 0 < k - i = omega arith in
-      let w = rw (row_more operand_in 15 operand_ends (k - i) p at s, z, ← eo, ← e, ← ex, ← en, ← ev) at h in
-      rw (add-one i, take-suc-set row i v (omega arith), append_assoc) w
+  lanes_turn o h l v e = rw (add-one i, take-suc-set row i v l, append_assoc) (rw (← e) at h)
 
-  pub lanes_over : k ≤ i → i ≤ k → take k row ≡ all
+  pub lanes_over : take i row ++ lanes_in regs bits j (map quantum os) ≡ all → os ≡ [] → take i row ≡ all
   unfolding lanes_in
-  lanes_over l m =
-      let z : i ≡ k = omega arith in
-      sym (append-nil (take k row)) ∙ (rw (row_none operand_in 15 operand_ends (k - i) p at (omega arith), z) at h)
+  lanes_over h e = sym (append-nil (take i row)) ∙ (rw e at h)
 
 -- ---- the bits of arguments
-
-named_place : (k at : ℕ) → row_past 6 k at ≡ at + 6 * k
-unfolding row_past
-named_place zero at = omega arith
-named_place (suc k) at = named_place k (at + 6) ∙ (let e : at + 6 + 6 * k ≡ at + 6 * suc k = omega (arith, mul-suc 6 k) in e)
 
 -- zeros past the end of a table are what is read there
 full_at : (t : List ℕ) (n x : ℕ) → get_or (t ++ replicate n 0) x 0 ≡ get_or t x 0
@@ -122,31 +107,28 @@ seen_frame head (suc k) at qs t x h =
     let m : 512 ≤ length (set t n (get_or qs 0 0)) = omega (arith, length-set t n (get_or qs 0 0)) in
     ap (λ (b : ℕ). seen (map argument (row_in named_in 6 k head (at + 6))) (drop 1 qs) b x) (sym (set_at t n (get_or qs 0 0) x l)) ∙ seen_frame head k (at + 6) (drop 1 qs) (set t n (get_or qs 0 0)) x m
 
-pub seen_all : (bits head qs : List ℕ) (x k n r : ℕ) → (k ≡ get_or head 11 0) × (k < 256) → (n ≡ get_or head 12 0) × (n < 256) → r ≡ get_or bits x 0
-    → seen (map argument (row_in named_in 6 n head (13 + 6 * k))) (drop 0 qs) r x ≡ get_or (sees bits head qs) x 0
+pub seen_all : (bits head qs : List ℕ) (x r : ℕ) → r ≡ get_or bits x 0 → seen (map argument (args_in head)) qs r x ≡ get_or (sees bits head qs) x 0
 unfolding args_in
-seen_all bits head qs x k n r ek en er =
-    rw (← ek.0, ← en.0, named_place k 13, er ∙ sym (full_at bits (512 - length bits) x)) (seen_frame head n (13 + 6 * k) qs (full bits) x (full_long bits))
+seen_all bits head qs x r e = rw (e ∙ sym (full_at bits (512 - length bits) x)) (seen_frame head (get_or head 12 0) (row_past 6 (get_or head 11 0) 13) qs (full bits) x (full_long bits))
 
-module _ (head qs : List ℕ) (k at i r x all : ℕ) (h : seen (map argument (row_in named_in 6 k head at)) (drop i qs) r x ≡ all) where
-  pub seen_turn : 0 < k → (a : ℕ) → a ≡ on head at 4 → (n : ℕ) → (n ≡ name_in head a) × (n < 512) → (q : ℕ) → q ≡ get_or qs i 0 → (b : ℕ) → b ≡ pick (eqb n x) q r → (next : ℕ) → next ≡ on head at 6
-      → seen (map argument (row_in named_in 6 (k - 1) head next)) (drop (i + 1) qs) b x ≡ all
-  unfolding seen named_in
-  seen_turn l a ea n en q eq b eb next ex =
-      let z : q ≡ get_or (drop i qs) 0 0 = eq ∙ sym (rw get_or-drop (ap (λ (n : ℕ). get_or qs n 0) (let y : i + 0 ≡ i = omega arith in y))) in
-      let y : n ≡ name_in head (at + 4) = en.0 ∙ ap (name_in head) ea ∙ name_on head at 4 in
-      let w = rw (row_more named_in 6 named_ends k head at l) at h in
-      rw (ex, eb, y, z, ← drop_drop i qs) w
-    where
-      drop_drop : (i : ℕ) (l : List ℕ) → drop 1 (drop i l) ≡ drop (i + 1) l
-      drop_drop zero l = refl
-      drop_drop (suc i) [] = rw (add-one (suc i)) refl
-      drop_drop (suc i) (x ∷ l) = rw (add-one (suc i)) (drop_drop i l ∙ (rw (add-one i) refl))
+drop_drop : (i : ℕ) (l : List ℕ) → drop 1 (drop i l) ≡ drop (i + 1) l
+drop_drop zero l = refl
+drop_drop (suc i) [] = rw (add-one (suc i)) refl
+drop_drop (suc i) (x ∷ l) = rw (add-one (suc i)) (drop_drop i l ∙ (rw (add-one i) refl))
 
-  pub seen_over : k ≤ 0 → r ≡ all
+module _ (qs : List ℕ) (i r x all : ℕ) (a : Named) (l : List Named) (h : seen (map argument (a ∷ l)) (drop i qs) r x ≡ all) where
+  seen_turn : seen (map argument l) (drop (i + 1) qs) (pick (eqb a.name x) (get_or qs i 0) r) x ≡ all
   unfolding seen
-  seen_over l = rw (row_none named_in 6 named_ends k head at l) at h
+  seen_turn =
+      let z : get_or qs i 0 ≡ get_or (drop i qs) 0 0 = sym (rw get_or-drop (ap (λ (n : ℕ). get_or qs n 0) (let y : i + 0 ≡ i = omega arith in y))) in
+      rw (z, ← drop_drop i qs) h
 
-pub lanes_all : (regs bits : List ℕ) (k : ℕ) (p : List ℕ) (j : ℕ)
-    → [] ++ lanes_in regs bits j (map quantum (row_in operand_in 15 (k - 0) p 12)) ≡ lanes_in regs bits j (map quantum (row_in operand_in 15 k p 12))
-lanes_all regs bits k p j = let e : k - 0 ≡ k = omega arith in rw e refl
+  pub seen_here : a.name ≡ x → (q : ℕ) → q ≡ get_or qs i 0 → seen (map argument l) (drop (i + 1) qs) q x ≡ all
+  seen_here e q eq = rw (eq-eqb a.name x e, ← eq) at seen_turn
+
+  pub seen_other : (a.name ≡ x → ⊥) → seen (map argument l) (drop (i + 1) qs) r x ≡ all
+  seen_other e = rw (ne_eqb a.name x e) at seen_turn
+
+pub seen_over : (qs : List ℕ) (r x all : ℕ) (l : List Named) → seen (map argument l) qs r x ≡ all → l ≡ [] → r ≡ all
+unfolding seen
+seen_over qs r x all l h e = rw e at h

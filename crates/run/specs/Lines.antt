@@ -1,28 +1,27 @@
 -- What the code writes of a run, for any words in its tables and any bytes: nothing is tested, and no sum goes past the largest number.
-use Rattle.std.specs.Prelude.{◌≡◌, Bool, true, false, List, [], ◌∷◌, ◌++◌, map, ℕ, zero, suc, ◌-◌, ◌<◌, ◌≤◌, eqb, length, get_or, set, drop, replicate}
+use Rattle.rules.specs.declared.Header.{Header}
+use Rattle.std.specs.Prelude.{◌≡◌, Bool, true, false, List, [], ◌∷◌, ◌++◌, map, ℕ, zero, suc, ◌-◌, ◌<◌, ◌≤◌, eqb, length, get_or, set, drop, replicate, Option, Some, None}
 use Rattle.rules.specs.declared.Operand.{Operand}
 use Rattle.rules.specs.declared.Reg.{Reg}
-use Rattle.rules.specs.declared.FoundGate.{FoundGate}
-use Rattle.rules.specs.declared.FoundGate.TheVariants.{Known, Unknown}
 use Rattle.rules.specs.Basics.{pick}
 use Rattle.rules.specs.Reading.{is_stmt, load_at}
 use Rattle.rules.specs.Syntax.{Stmt, u, cx, measure, reset, barrier, call, if, missing}
 use Rattle.rules.specs.Grouping.{stmts}
 use Rattle.rules.specs.Checking.{Asked, quantum, classic, argument}
-use Rattle.rules.specs.Run.{Entry, u_e, cx_e, measure_e, reset_e, barrier_e, barrier_end_e, opaque_e, if_e, if_end_e, entry_field, common}
+use Rattle.rules.specs.Run.{Entry, cx_e, measure_e, barrier_end_e, opaque_e, if_e, if_end_e, entry_field, common}
 use Rattle.views.specs.View.{name_in, operand_in, row_in, args_in, next_in, rest}
 use Rattle.views.specs.Steps.{after}
-use Rattle.output.specs.declared.Sink.{Sink}
 use Rattle.output.specs.Bytes.{plus}
-use Rattle.output.specs.Sinks.{Put}
+use Rattle.output.specs.declared.Writer.{Writer}
+use Rattle.output.specs.Writers.{Puts}
 use Rattle.tables.specs.Tables.{gate_in}
 use Rattle.counts.specs.Sums.{size_in, sizes_in}
-use Rattle.run.specs.declared.Kind.{Kind}
-use Rattle.run.specs.declared.Kind.TheVariants.{U, Reset, Barrier}
-use Rattle.run.specs.declared.Step.{Step}
-use Rattle.run.specs.declared.Step.TheVariants.{Walk, Skip}
-use Rattle.run.specs.declared.Ran.{Ran}
-use Rattle.run.specs.declared.Turn.{Turn}
+use Rattle.entries.specs.declared.Kind.{Kind}
+use Rattle.entries.specs.declared.Kind.TheVariants.{U, Reset, Barrier}
+use Rattle.entries.specs.Kinds.{one_of}
+use Rattle.run.specs.declared.Frame.{Frame}
+use Rattle.run.specs.declared.Program.{Program}
+use Rattle.run.specs.declared.Top.{Top}
 
 -- ---- bits
 
@@ -48,12 +47,6 @@ turn_list (suc k) j f = f j ++ turn_list k (suc j) f
 unfoldable pub spread_in : (regs bits : List ℕ) → List Asked → (List ℕ → List Entry) → List Entry
 spread_in regs bits qs f = turn_list (common (sizes_in regs qs)) 0 (λ j. f (lanes_in regs bits j qs))
 
--- an entry of one qubit
-abbrev pub one_of : Kind → ℕ → Entry
-one_of U q = u_e q
-one_of Reset q = reset_e q
-one_of Barrier q = barrier_e q
-
 -- an entry of two bits
 abbrev pub two_of : (measures : Bool) → ℕ → ℕ → Entry
 two_of true = measure_e
@@ -73,14 +66,14 @@ barrier_row regs bits [] = []
 barrier_row regs bits (q ∷ qs) = one_turns Barrier (start_in bits q.operand) (size_in regs q) ++ barrier_row regs bits qs
 
 -- a call of what is known of a name; 01: "walking calls that yield no entries" is a wrong build
-abbrev pub called : FoundGate → (counts : List ℕ) → (ℕ → List Entry) → List Entry
-called Unknown counts f = []
-called (Known h) counts f = pick (eqb (get_or counts h.number 0) 0) [] (f h.number)
+abbrev pub called : Option Header → (counts : List ℕ) → (ℕ → List Entry) → List Entry
+called None counts f = []
+called (Some h) counts f = pick (eqb (get_or counts h.number 0) 0) [] (f h.number)
 
 -- .. by what the code makes of the name
-abbrev pub walked : Step → (ℕ → List Entry) → List Entry
-walked Skip f = []
-walked (Walk g) f = f g
+abbrev pub walked : Option ℕ → (ℕ → List Entry) → List Entry
+walked None f = []
+walked (Some g) f = f g
 
 -- any statement; an IF here is what it governs alone
 module _ (call' : ℕ → List ℕ → List Entry) (gates counts regs bits : List ℕ) where
@@ -157,18 +150,27 @@ gate_lines img gates counts places (suc d) g qs =
     (lines (gate_lines img gates counts places d) gates counts [] (frame_of head qs (replicate 512 0)) (stmts false (rest img (next_in img place))))
     (opaque_e (name_in head 8) qs ∷ [])
 
--- what a run of the statement at a place leaves: its entries, and the place after it
-pub record Does (es : List Entry) (img : List ℕ) (at : ℕ) (b : List ℕ) (s : Sink) (b' : List ℕ) (r : Ran) : Type 0 where
-  pub put : Put entry_field b s es b' r.sink
-  pub left : rest img r.next ≡ after (rest img at)
-  pub inside : r.next ≤ length img
-  pub on : at ≤ length img → at ≤ r.next
-  pub past : at < length img → is_stmt (get_or img at 0) ≡ true → at < r.next
+-- ---- the same of what the code lends
 
--- X i at is what is left to write from a place on, where a body is open or not: a turn writes some of it and moves on
-pub record Moves (X : Bool → ℕ → List Entry) (img : List ℕ) (i : Bool) (at : ℕ) (b : List ℕ) (s : Sink) (b' : List ℕ) (r : Turn) : Type 0 where
-  pub wrote : List Entry
-  pub put : Put entry_field b s wrote b' r.sink
-  pub owed : X i at ≡ wrote ++ X r.inside r.next
-  pub on : at < r.next
-  pub within : r.next ≤ length img
+-- the bits of the names in a frame
+abbrev pub names : Frame → List ℕ
+names f = sees f.bits.now f.head.now f.qs.now
+
+-- the runs of a program's gates
+abbrev pub gate_runs : Program → (depth g : ℕ) → List ℕ → List Entry
+gate_runs p = gate_lines p.img.now p.gates.now p.counts.now p.places.now
+
+-- a statement of the top level, without the beginnings and ends of IFs and with them
+abbrev pub runs : Top → Stmt → List Entry
+runs t = line (gate_runs t.program t.depth) t.program.gates.now t.program.counts.now t.frame.regs.now (names t.frame)
+
+abbrev pub top_runs : Top → Stmt → List Entry
+top_runs t = top_line (gate_runs t.program t.depth) t.program.gates.now t.program.counts.now t.frame.regs.now (names t.frame)
+
+-- what a run of the statement at a place leaves: its entries, and the place after it
+pub record Does (es : List Entry) (img : List ℕ) (at : ℕ) (w w' : Writer) (next : ℕ) : Type 0 where
+  pub put : Puts entry_field w es w'
+  pub left : rest img next ≡ after (rest img at)
+  pub inside : next ≤ length img
+  pub on : at ≤ length img → at ≤ next
+  pub past : at < length img → is_stmt (get_or img at 0) ≡ true → at < next

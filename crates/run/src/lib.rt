@@ -1,531 +1,300 @@
 // The run of a program that check finds no errors in, written as entries.
 #![tactic(auto)]
 
-ghost use Rattle.std.specs.Prelude.{◌≡◌, List, [], ◌∷◌, ◌++◌, map, true, false, ℕ, ◌+◌, ◌-◌, ◌<◌, eqb, length, get_or, take};
-ghost use Rattle.rules.specs.Basics.{pick};
+ghost use Rattle.std.specs.Prelude.{◌≡◌, List, [], ◌∷◌, ◌++◌, map, true, false, ℕ, ◌<◌, length, get_or, take};
 ghost use Rattle.rules.specs.Grouping.{stmt, decls};
 ghost use Rattle.rules.specs.Checking.{quantum};
 ghost use Rattle.rules.specs.Run.{Entry, entry_field, barrier_end_e, tops};
 ghost use Rattle.views.specs.View.{operand_in, row_in, call_in, rest};
-ghost use Rattle.output.specs.Bytes.{plus};
-ghost use Rattle.output.specs.Sinks.{Put};
+ghost use Rattle.output.specs.Writers.{Puts};
 ghost use Rattle.asserts.specs.Sizes.{asked};
 ghost use Rattle.tables.specs.Tables.{gate_in};
 ghost use Rattle.counts.specs.Sums.{size_in};
-ghost use Rattle.run.specs.Lines.{start_in, lane_of, lanes_in, one_of, two_of, one_turns, two_turns, barrier_row, called, walked, line, top_line, top_lines, plain_line, sees, full, gate_lines, spread_in, Does, Moves};
+ghost use Rattle.run.specs.Lines.{start_in, lane_of, lanes_in, two_of, one_turns, two_turns, barrier_row, called, walked, line, top_lines, plain_line, full, spread_in, names, gate_runs, runs, top_runs, Does};
 
-use counts::{common_of, common_row, size_in, then_inside, word_of};
-use items::{along, byte_at, eight_at};
-use output::Sink;
-use rules::{FoundGate, Operand};
-use tables::find_gate;
+use counts::{common_of, common_row, size_in, word_of};
+use entries::{Kind, barrier_end, cx, if_begin, if_end, measure, opaque_call, put_one};
+use items::{byte_at, eight_at};
+use output::Writer;
+use rules::Operand;
+use tables::{find_gate, word};
 use typing::is_stmt;
-use views::{is_one, load, name, next, operand};
+use views::{Fields, Item, Nameds, is_one, load, name, operand};
 
 // ---- bits
 
-// A sum that stops at the largest number.
-fn sum(a: u64, b: u64) -> u64
-    ensures { result ≡ plus a b }
-{
-    if b <= 18446744073709551615 - a {
-        a + b
-    } else {
-        18446744073709551615
-    }
-}
-
-// One number where two names are the same, else another.
-fn either(n: u64, x: u64, one: u64, other: u64) -> u64
-    ensures { result ≡ pick (eqb n x) one other }
-{
-    if n == x { one } else { other }
-}
-
-// The bit of a name: that of the latest argument of a header with the name, or the table's. A header is gone through for each name, so that a call
-// needs no table of its own. At the top level there is no header: no arguments.
-fn bit_of(bits: &[u64], head: &[u8], qs: &[u64], x: u64) -> u64
-    ensures { result ≡ get_or (sees bits.now head.now qs.now) x 0 }
-{
-    let mut at = 13 + 6 * byte_at(head, 11) as usize;
-    let mut more = byte_at(head, 12);
-    let mut i: u64 = 0;
-    let mut r = word_of(bits, x);
-    while 0 < more {
-        r = either(name(head, along(head, at, 4)), x, word_of(qs, i), r);
-        at = along(head, at, 6);
-        more -= 1;
-        i += 1;
-    }
-    r
-}
-
-// The first bit that an operand names.
-fn start_in(bits: &[u64], head: &[u8], qs: &[u64], o: Operand) -> u64
-    ensures { result ≡ start_in (sees bits.now head.now qs.now) o }
-{
-    let first = bit_of(bits, head, qs, o.name);
-    if o.indexed {
-        return sum(first, o.index);
-    }
-    sum(first, 0)
-}
-
-// The bit of an operand in turn j: one of size 1 repeats.
-fn lane(start: u64, n: u64, j: u64) -> u64
-    ensures { result ≡ lane_of start n j }
-{
-    if n == 1 {
-        return sum(start, 0);
-    }
-    sum(start, j)
-}
-
-// ---- entries of one and of two bits, turn by turn
-
+// The bits that an operand names: the first, and how many.
 #[derive(Clone, Copy)]
-pub enum Kind {
-    U,
-    Reset,
-    Barrier,
+struct Wires {
+    start: u64,
+    size: u64,
 }
 
-fn put_one(out: &mut [u8], s: Sink, kind: Kind, q: u64) -> Sink
-    ensures { Put entry_field out.old s (one_of kind q ∷ []) out.new result }
-{
-    match kind {
-        Kind::U => entries::u(out, s, q),
-        Kind::Reset => entries::reset(out, s, q),
-        Kind::Barrier => entries::barrier(out, s, q),
+impl Wires {
+    // The bit in turn j: where there is but one, it repeats. A sum stops at the largest number.
+    fn lane(self, j: u64) -> u64
+        ensures { result ≡ lane_of self.start self.size j }
+    {
+        self.start
+            .saturating_add(if self.size == 1 { 0 } else { j })
     }
 }
 
-fn each_one(out: &mut [u8], s: Sink, kind: Kind, start: u64, n: u64) -> Sink
-    ensures { Put entry_field out.old s (one_turns kind start n) out.new result }
-{
-    let mut r = s;
-    let mut j: u64 = 0;
-    while j < n {
-        r = put_one(out, r, kind, lane(start, n, j));
-        j += 1;
-    }
-    r
-}
-
-fn put_two(out: &mut [u8], s: Sink, measures: bool, x: u64, y: u64) -> Sink
-    ensures { Put entry_field out.old s (two_of measures x y ∷ []) out.new result }
+// An entry of two bits: a measurement or a CX. (The flag says of the operands too which are classical, as `two_turns` has it.)
+fn put_two(w: &mut Writer, measures: bool, x: u64, y: u64)
+    ensures { Puts entry_field w.old (two_of measures x y ∷ []) w.new }
 {
     if measures {
-        return entries::measure(out, s, x, y);
+        measure(w, x, y);
+    } else {
+        cx(w, x, y);
     }
-    entries::cx(out, s, x, y)
-}
-
-fn each_two(out: &mut [u8], s: Sink, measures: bool, x: u64, m: u64, y: u64, n: u64) -> Sink
-    ensures { Put entry_field out.old s (two_turns measures x m y n) out.new result }
-{
-    let both = common_of(m, n);
-    let mut r = s;
-    let mut j: u64 = 0;
-    while j < both {
-        r = put_two(out, r, measures, lane(x, m, j), lane(y, n, j));
-        j += 1;
-    }
-    r
 }
 
 // ---- statements
 
-fn run_one(
-    out: &mut [u8],
-    s: Sink,
-    kind: Kind,
-    o: Operand,
-    regs: &[u64],
-    bits: &[u64],
-    head: &[u8],
-    qs: &[u64],
-) -> Sink
-    ensures { Put entry_field out.old s (one_turns kind (start_in (sees bits.now head.now qs.now) o) (size_in regs.now (quantum o))) out.new result }
-{
-    each_one(
-        out,
-        s,
-        kind,
-        start_in(bits, head, qs, o),
-        size_in(regs, o, false),
-    )
-}
-
-fn run_two(
-    out: &mut [u8],
-    s: Sink,
-    measures: bool,
-    p: &[u8],
-    regs: &[u64],
-    bits: &[u64],
-    head: &[u8],
-    qs: &[u64],
-) -> Sink
-    ensures { Put entry_field out.old s (two_turns measures (start_in (sees bits.now head.now qs.now) (operand_in p.now 4)) (size_in regs.now (quantum (operand_in p.now 4))) (start_in (sees bits.now head.now qs.now) (operand_in p.now 19)) (size_in regs.now (asked measures (operand_in p.now 19)))) out.new result }
-{
-    let a = operand(p, 4);
-    let b = operand(p, 19);
-    let m = size_in(regs, a, false);
-    let n = size_in(regs, b, measures);
-    each_two(
-        out,
-        s,
-        measures,
-        start_in(bits, head, qs, a),
-        m,
-        start_in(bits, head, qs, b),
-        n,
-    )
-}
-
-fn run_barrier(
-    out: &mut [u8],
-    s: Sink,
-    p: &[u8],
-    regs: &[u64],
-    bits: &[u64],
-    head: &[u8],
-    qs: &[u64],
-) -> Sink
-    ensures { Put entry_field out.old s (barrier_row regs.now (sees bits.now head.now qs.now) (map quantum (row_in operand_in 15 (get_or p.now 4 0) p.now 5)) ++ (barrier_end_e ∷ [])) out.new result }
-{
-    let mut at = 5;
-    let mut left = byte_at(p, 4);
-    let mut r = s;
-    while 0 < left {
-        r = run_one(out, r, Kind::Barrier, operand(p, at), regs, bits, head, qs);
-        at = along(p, at, 15);
-        left -= 1;
-    }
-    entries::barrier_end(out, r)
-}
-
-// Any statement but a call and an IF, by its tag; for another field nothing.
-fn run_plain(
-    out: &mut [u8],
-    s: Sink,
-    tag: u64,
-    p: &[u8],
-    regs: &[u64],
-    bits: &[u64],
-    head: &[u8],
-    qs: &[u64],
-) -> Sink
-    ensures { Put entry_field out.old s (plain_line regs.now (sees bits.now head.now qs.now) tag p.now) out.new result }
-{
-    if tag == 16 {
-        return run_one(out, s, Kind::U, operand(p, 4), regs, bits, head, qs);
-    }
-    if tag == 17 {
-        return run_two(out, s, false, p, regs, bits, head, qs);
-    }
-    if tag == 18 {
-        return run_two(out, s, true, p, regs, bits, head, qs);
-    }
-    if tag == 19 {
-        return run_one(out, s, Kind::Reset, operand(p, 4), regs, bits, head, qs);
-    }
-    if tag == 20 {
-        return run_barrier(out, s, p, regs, bits, head, qs);
-    }
-    s
-}
-
-// ---- calls
-
-// The bits of k operands in turn j. A count is one byte, so that there is room for each.
-fn lanes(
-    p: &[u8],
-    k: u64,
-    regs: &[u64],
-    bits: &[u64],
-    head: &[u8],
-    qs: &[u64],
-    j: u64,
-) -> [u64; 256]
-    requires { k < 256 }
-    ensures { take k result ≡ lanes_in regs.now (sees bits.now head.now qs.now) j (map quantum (row_in operand_in 15 k p.now 12)) }
-{
-    let mut row = [0u64; 256];
-    let mut at = 12;
-    let mut i: u64 = 0;
-    while i < k {
-        let o = operand(p, at);
-        row[i as usize] = lane(start_in(bits, head, qs, o), size_in(regs, o, false), j);
-        at = along(p, at, 15);
-        i += 1;
-    }
-    row
-}
-
-// The gate that a call walks, if there is anything to walk.
+// What names stand for: the sizes of registers and the first bits of names by tables, and over those the arguments of a gate's header, whose bits are
+// qs. At the top level there is no header, in a body there are no tables.
 #[derive(Clone, Copy)]
-pub enum Step {
-    Walk(u64),
-    Skip,
+struct Frame<'a> {
+    regs: &'a [u64],
+    bits: &'a [u64],
+    head: &'a [u8],
+    qs: &'a [u64],
 }
 
-fn callee(gates: &[u64], counts: &[u64], x: u64) -> Step
-    ensures { (f : ℕ → List Entry) → called (gate_in gates.now x) counts.now f ≡ walked result f }
-{
-    match find_gate(gates, x) {
-        FoundGate::Unknown => Step::Skip,
-        FoundGate::Known(h) => {
-            if word_of(counts, h.number) == 0 {
-                return Step::Skip;
+impl<'a> Frame<'a> {
+    // The bit of a name: that of the latest argument with the name, or the table's. A header is gone through for each name, so that a call needs no
+    // table of its own.
+    fn bit(self, x: u64) -> u64
+        ensures { result ≡ get_or (names self.entry) x 0 }
+    {
+        let mut bit = word_of(self.bits, x);
+        for (i, arg) in Nameds::args(self.head).enumerate() {
+            if arg.name == x {
+                bit = word(self.qs, i);
             }
-            Step::Walk(h.number)
+        }
+        bit
+    }
+
+    // The first bit that an operand names.
+    #[tactic(auto, unfolding(crate::specs::Lines::start_in))]
+    fn start(self, o: Operand) -> u64
+        ensures { result ≡ start_in (names self.entry) o }
+    {
+        let first = self.bit(o.name);
+        first.saturating_add(if o.indexed { o.index } else { 0 })
+    }
+
+    fn wires(self, o: Operand, classical: bool) -> Wires
+        ensures { (result.start ≡ start_in (names self.entry) o) × (result.size ≡ size_in self.entry.regs.now (asked classical o)) }
+    {
+        Wires {
+            start: self.start(o),
+            size: size_in(self.regs, o, classical),
+        }
+    }
+
+    // An entry for each qubit of an operand.
+    fn one(self, w: &mut Writer, kind: Kind, o: Operand)
+        ensures { Puts entry_field w.old (one_turns kind (start_in (names self.entry) o) (size_in self.entry.regs.now (quantum o))) w.new }
+    {
+        let q = self.wires(o, false);
+        for j in 0..q.size {
+            put_one(w, kind, q.lane(j));
+        }
+    }
+
+    // An entry for each pair of bits. (A flag, not a closure: it says besides that the second operand is classical.)
+    fn two(self, w: &mut Writer, measures: bool, p: &[u8])
+        ensures { Puts entry_field w.old (two_turns measures (start_in (names self.entry) (operand_in p.now 4)) (size_in self.entry.regs.now (quantum (operand_in p.now 4))) (start_in (names self.entry) (operand_in p.now 19)) (size_in self.entry.regs.now (asked measures (operand_in p.now 19)))) w.new }
+    {
+        let x = self.wires(operand(p, 4), false);
+        let y = self.wires(operand(p, 19), measures);
+        for j in 0..common_of(x.size, y.size) {
+            put_two(w, measures, x.lane(j), y.lane(j));
+        }
+    }
+
+    fn barrier(self, w: &mut Writer, p: &[u8])
+        ensures { Puts entry_field w.old (barrier_row self.entry.regs.now (names self.entry) (map quantum (row_in operand_in 15 (get_or p.now 4 0) p.now 5)) ++ (barrier_end_e ∷ [])) w.new }
+    {
+        for o in Operand::row(p, 5, byte_at(p, 4)) {
+            self.one(w, Kind::Barrier, o);
+        }
+        barrier_end(w);
+    }
+
+    // Any statement but a call and an IF, by its tag, a number as 01 has it (`views::Field`); for another field nothing.
+    #[tactic(auto, unfolding(crate::specs::Lines::plain_line))]
+    fn plain(self, w: &mut Writer, tag: u64, p: &[u8])
+        ensures { Puts entry_field w.old (plain_line self.entry.regs.now (names self.entry) tag p.now) w.new }
+    {
+        match tag {
+            16 => self.one(w, Kind::U, operand(p, 4)),
+            17 => self.two(w, false, p),
+            18 => self.two(w, true, p),
+            19 => self.one(w, Kind::Reset, operand(p, 4)),
+            20 => self.barrier(w, p),
+            _ => {}
+        }
+    }
+
+    // The bits of a call's k operands in turn j, to the front of a row. The row has room for any: no heap, and a count is one byte. It is lent, since a row
+    // handed back would be copied, and stand twice on the stack of each call.
+    fn lanes(self, row: &mut [u64; 256], p: &[u8], k: u64, j: u64)
+        requires { k < 256 }
+        ensures { take k row.new ≡ lanes_in self.entry.regs.now (names self.entry) j (map quantum (row_in operand_in 15 k p.now 12)) }
+    {
+        for (i, o) in Operand::row(p, 12, k).enumerate() {
+            row[i] = self.wires(o, false).lane(j);
         }
     }
 }
 
-// One run of a gate on the qubits of its arguments: the statements of its body, each once, or its one entry. The depth falls with each call.
-fn run_gate(
-    out: &mut [u8],
-    s: Sink,
-    img: &[u8],
-    gates: &[u64],
-    counts: &[u64],
-    places: &[u64],
-    depth: usize,
-    g: u64,
-    qs: &[u64],
-) -> Sink
-    ensures { Put entry_field out.old s (gate_lines img.now gates.now counts.now places.now depth g qs.now) out.new result }
-{
-    if depth == 0 {
-        return s;
-    }
-    let place = word_of(places, g) as usize;
-    let head = load(img, place);
-    if !is_one(head, 10) {
-        return entries::opaque_call(out, s, name(head, 8), qs);
-    }
-    let none = [0u64; 0];
-    let mut at = next(img, place);
-    let mut r = s;
-    while at < img.len() {
-        let tag = byte_at(img, at);
-        if tag == 6 {
-            return r;
+// ---- gates
+
+// What is run: an image, its gates by their names, and by their numbers how many entries each has and where it stands.
+#[derive(Clone, Copy)]
+pub struct Program<'a> {
+    pub img: &'a [u8],
+    pub gates: &'a [u64],
+    pub counts: &'a [u64],
+    pub places: &'a [u64],
+}
+
+impl<'a> Program<'a> {
+    // The gate that a call walks, if there is anything to walk.
+    fn callee(self, x: u64) -> Option<u64>
+        ensures { (f : ℕ → List Entry) → called (gate_in self.entry.gates.now x) self.entry.counts.now f ≡ walked result f }
+    {
+        match find_gate(self.gates, x) {
+            Some(h) if word_of(self.counts, h.number) != 0 => Some(h.number),
+            _ => None,
         }
-        let p = load(img, at);
-        at = next(img, at);
-        if tag != 21 {
-            r = run_plain(out, r, tag, p, &none, &none, head, qs);
-            continue;
+    }
+
+    // One run of a gate on the qubits of its arguments: the statements of its body, each once, or its one entry. The depth falls with each call.
+    fn gate(self, w: &mut Writer, depth: usize, g: u64, qs: &[u64])
+        ensures { Puts entry_field w.old (gate_runs self.entry depth g qs.now) w.new }
+    {
+        if depth == 0 {
+            return;
         }
-        match callee(gates, counts, name(p, 8)) {
-            Step::Skip => continue,
-            Step::Walk(h) => {
-                let k = byte_at(p, 11);
-                let row = lanes(p, k, &none, &none, head, qs, 0);
-                let n = k as usize;
-                r = run_gate(out, r, img, gates, counts, places, depth - 1, h, &row[0..n]);
+        let place = word_of(self.places, g) as usize;
+        let head = load(self.img, place);
+        if !is_one(head, 10) {
+            opaque_call(w, name(head, 8), qs);
+            return;
+        }
+        let frame = Frame {
+            regs: &[],
+            bits: &[],
+            head,
+            qs,
+        };
+        for f in Fields::body(self.img, place) {
+            if f.tag == 6 {
+                return;
+            }
+            if f.tag != 21 {
+                frame.plain(w, f.tag, f.payload);
+                continue;
+            }
+            if let Some(h) = self.callee(name(f.payload, 8)) {
+                let k = byte_at(f.payload, 11);
+                let mut row = [0; 256];
+                frame.lanes(&mut row, f.payload, k, 0);
+                self.gate(w, depth - 1, h, &row[..k as usize]);
             }
         }
     }
-    r
 }
 
 // ---- the top level
 
-// A call of a gate, once for each turn.
-fn each_call(
-    out: &mut [u8],
-    s: Sink,
-    img: &[u8],
-    p: &[u8],
-    gates: &[u64],
-    counts: &[u64],
-    places: &[u64],
-    regs: &[u64],
-    bits: &[u64],
-    depth: usize,
-    g: u64,
-) -> Sink
-    ensures { Put entry_field out.old s (spread_in regs.now (full bits.now) (map quantum (row_in operand_in 15 (get_or p.now 11 0) p.now 12)) (gate_lines img.now gates.now counts.now places.now depth g)) out.new result }
-{
-    let k = byte_at(p, 11);
-    let turns = common_row(p, 12, k, regs);
-    let few = k as usize;
-    let head = [0u8; 0];
-    let none = [0u64; 0];
-    let mut r = s;
-    let mut turn: u64 = 0;
-    while turn < turns {
-        let row = lanes(p, k, regs, bits, &head, &none, turn);
-        r = run_gate(out, r, img, gates, counts, places, depth, g, &row[0..few]);
-        turn += 1;
-    }
-    r
-}
-
-fn run_call(
-    out: &mut [u8],
-    s: Sink,
-    img: &[u8],
-    p: &[u8],
-    gates: &[u64],
-    counts: &[u64],
-    places: &[u64],
-    regs: &[u64],
-    bits: &[u64],
-    depth: usize,
-) -> Sink
-    ensures { Put entry_field out.old s (line (gate_lines img.now gates.now counts.now places.now depth) gates.now counts.now regs.now (full bits.now) (call_in p.now)) out.new result }
-{
-    match callee(gates, counts, name(p, 8)) {
-        Step::Skip => s,
-        Step::Walk(g) => { each_call(out, s, img, p, gates, counts, places, regs, bits, depth, g) }
-    }
-}
-
-// What a statement at a place leaves: the place after it, and the counts.
+// A program, what names stand for at its top level, and how deep calls may go.
 #[derive(Clone, Copy)]
-pub struct Ran {
-    pub next: usize,
-    pub sink: Sink,
-}
-
-// The statement that stands at a place. An IF's beginning, the statement right after it, and the IF's end.
-fn run_stmt(
-    out: &mut [u8],
-    s: Sink,
-    img: &[u8],
-    at: usize,
-    gates: &[u64],
-    counts: &[u64],
-    places: &[u64],
-    regs: &[u64],
-    bits: &[u64],
+struct Top<'a> {
+    program: Program<'a>,
+    frame: Frame<'a>,
     depth: usize,
-) -> Ran
-    ensures { Does (top_line (gate_lines img.now gates.now counts.now places.now depth) gates.now counts.now regs.now (full bits.now) (stmt (rest img.now at))) img.now at out.old s out.new result }
-{
-    if img.len() <= at {
-        return Ran {
-            next: img.len(),
-            sink: s,
-        };
-    }
-    let tag = byte_at(img, at);
-    let p = load(img, at);
-    let after = next(img, at);
-    let head = [0u8; 0];
-    let none = [0u64; 0];
-    if tag == 22 {
-        let o = operand(p, 4);
-        let width = size_in(regs, o, true);
-        let a = entries::if_begin(
-            out,
-            s,
-            start_in(bits, &head, &none, o),
-            width,
-            eight_at(p, 23),
-        );
-        let b = run_stmt(out, a, img, after, gates, counts, places, regs, bits, depth);
-        let c = entries::if_end(out, b.sink);
-        return Ran {
-            next: b.next,
-            sink: c,
-        };
-    }
-    if tag == 21 {
-        let a = run_call(out, s, img, p, gates, counts, places, regs, bits, depth);
-        return Ran {
-            next: after,
-            sink: a,
-        };
-    }
-    if is_stmt(tag) {
-        let a = run_plain(out, s, tag, p, regs, bits, &head, &none);
-        return Ran {
-            next: after,
-            sink: a,
-        };
-    }
-    Ran { next: at, sink: s }
 }
 
-// What one field does to the walk: the place after it, whether a body is open then, and the counts.
-#[derive(Clone, Copy)]
-pub struct Turn {
-    pub next: usize,
-    pub inside: bool,
-    pub sink: Sink,
-}
-
-fn top_turn(
-    out: &mut [u8],
-    s: Sink,
-    img: &[u8],
-    at: usize,
-    inside: bool,
-    gates: &[u64],
-    counts: &[u64],
-    places: &[u64],
-    regs: &[u64],
-    bits: &[u64],
-    depth: usize,
-) -> Turn
-    requires { at < length img.now }
-    ensures { Moves (λ i at. top_lines (gate_lines img.now gates.now counts.now places.now depth) gates.now counts.now regs.now (full bits.now) (tops (decls i false (rest img.now at)))) img.now inside at out.old s out.new result }
-{
-    let tag = byte_at(img, at);
-    let p = load(img, at);
-    if inside {
-        return Turn {
-            next: next(img, at),
-            inside: then_inside(true, tag, p),
-            sink: s,
-        };
+impl<'a> Top<'a> {
+    // A call of a gate, once for each turn.
+    fn each_call(self, w: &mut Writer, p: &[u8], g: u64)
+        ensures { Puts entry_field w.old (spread_in self.entry.frame.regs.now (names self.entry.frame) (map quantum (row_in operand_in 15 (get_or p.now 11 0) p.now 12)) (gate_runs self.entry.program self.entry.depth g)) w.new }
+    {
+        let k = byte_at(p, 11);
+        for j in 0..common_row(p, 12, k, self.frame.regs) {
+            let mut row = [0; 256];
+            self.frame.lanes(&mut row, p, k, j);
+            self.program.gate(w, self.depth, g, &row[..k as usize]);
+        }
     }
-    if is_stmt(tag) {
-        let c = run_stmt(out, s, img, at, gates, counts, places, regs, bits, depth);
-        let r = c.sink;
-        return Turn {
-            next: c.next,
+
+    fn call(self, w: &mut Writer, p: &[u8])
+        ensures { Puts entry_field w.old (runs self.entry (call_in p.now)) w.new }
+    {
+        if let Some(g) = self.program.callee(name(p, 8)) {
+            self.each_call(w, p, g);
+        }
+    }
+
+    // The statement that stands at a place, and the place after it. An IF's beginning, the statement right after it, and the IF's end.
+    fn stmt(self, w: &mut Writer, at: usize) -> usize
+        ensures { Does (top_runs self.entry (stmt (rest self.entry.program.img.now at))) self.entry.program.img.now at w.old w.new result }
+    {
+        let img = self.program.img;
+        let mut fields = Fields {
+            img,
+            at,
             inside: false,
-            sink: r,
         };
-    }
-    Turn {
-        next: next(img, at),
-        inside: then_inside(false, tag, p),
-        sink: s,
+        let Some(f) = fields.next() else {
+            return img.len();
+        };
+        if f.tag == 22 {
+            let o = operand(f.payload, 4);
+            let bits = self.frame.wires(o, true);
+            if_begin(w, bits.start, bits.size, eight_at(f.payload, 23));
+            let after = self.stmt(w, fields.at);
+            if_end(w);
+            return after;
+        }
+        if f.tag == 21 {
+            self.call(w, f.payload);
+            return fields.at;
+        }
+        if is_stmt(f.tag) {
+            self.frame.plain(w, f.tag, f.payload);
+            return fields.at;
+        }
+        at
     }
 }
 
 // The run: the statements of the top level, in their order.
-pub fn run_top(
-    out: &mut [u8],
-    s: Sink,
-    img: &[u8],
-    gates: &[u64],
-    counts: &[u64],
-    places: &[u64],
-    regs: &[u64],
-    bits: &[u64],
-    depth: usize,
-) -> Sink
-    ensures { Put entry_field out.old s (top_lines (gate_lines img.now gates.now counts.now places.now depth) gates.now counts.now regs.now (full bits.now) (tops (decls false false (rest img.now 0)))) out.new result }
+pub fn run_top(w: &mut Writer, program: Program, regs: &[u64], bits: &[u64], depth: usize)
+    ensures { Puts entry_field w.old (top_lines (gate_runs program.entry depth) program.entry.gates.now program.entry.counts.now regs.now (full bits.now) (tops (decls false false (rest program.entry.img.now 0)))) w.new }
 {
-    let mut w = Turn {
-        next: 0,
-        inside: false,
-        sink: s,
+    let top = Top {
+        program,
+        frame: Frame {
+            regs,
+            bits,
+            head: &[],
+            qs: &[],
+        },
+        depth,
     };
-    while w.next < img.len() {
-        w = top_turn(
-            out, w.sink, img, w.next, w.inside, gates, counts, places, regs, bits, depth,
-        );
+    let mut fields = Fields::of(program.img);
+    // an IF takes the statement behind it, so the place is set in the loop
+    while let Some(f) = fields.next() {
+        if !f.inside && is_stmt(f.tag) {
+            fields.at = top.stmt(w, f.place);
+        }
     }
-    w.sink
 }

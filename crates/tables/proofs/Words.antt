@@ -1,4 +1,5 @@
 -- What each way out of a look-up gives.
+use Rattle.std.specs.Prelude.{Some, None}
 use mathlib.Core.Path.{◌≡◌, refl, sym, ◌∙◌}
 use mathlib.Core.List.{List, [], ◌∷◌}
 use mathlib.Core.Bool.{Bool, false}
@@ -9,19 +10,17 @@ use borrow.Author.Tests.{eq-eqb, ne_eqb, lt-ltb, le-ltb}
 use lib.ListN.{length, get_or, set, get_or-eq_default}
 use lib.Seq.{sets, set_out}
 use lib.Dec.{eqb}
-use Rattle.rules.specs.declared.FoundGate.TheVariants.{Known, Unknown}
-use Rattle.rules.specs.declared.Found.TheVariants.{Row, Nothing}
 use Rattle.tables.specs.Tables.{word, gate_in, reg_in, param_in, row_set, param_set}
 
 pub word_past : (t : List ℕ) (i : ℕ) → length t ≤ i → ◌≡◌ {A = ℕ} 0 (get_or t i 0)
 word_past t i h = sym (get_or-eq_default t 0 h)
 
 module _ (t : List ℕ) (x : ℕ) (h : 512 ≤ x) where
-  pub gate_far : Unknown ≡ gate_in t x
+  pub gate_far : None ≡ gate_in t x
   unfolding gate_in
   gate_far = rw (le-ltb x 512 h) refl
 
-  pub reg_far : Nothing ≡ reg_in t x
+  pub reg_far : None ≡ reg_in t x
   unfolding reg_in
   reg_far = rw (le-ltb x 512 h) refl
 
@@ -30,21 +29,21 @@ module _ (t : List ℕ) (x : ℕ) (h : 512 ≤ x) where
   param_far = rw (le-ltb x 512 h) refl
 
 module _ (t : List ℕ) (x n : ℕ) (h : x < 512) (e : n ≡ word t x 0) where
-  pub gate_none : n ≡ 0 → Unknown ≡ gate_in t x
+  pub gate_none : n ≡ 0 → None ≡ gate_in t x
   unfolding gate_in
   gate_none z = rw (lt-ltb x 512 h, eq-eqb (word t x 0) 0 (sym e ∙ z)) refl
 
-  pub reg_none : n ≡ 0 → Nothing ≡ reg_in t x
+  pub reg_none : n ≡ 0 → None ≡ reg_in t x
   unfolding reg_in
   reg_none z = rw (lt-ltb x 512 h, eq-eqb (word t x 0) 0 (sym e ∙ z)) refl
 
   pub gate_row_lem : (n ≡ 0 → ⊥) → (a b d : ℕ) → a ≡ word t x 1 → b ≡ word t x 2 → d ≡ word t x 3
-      → Known (record { number = n - 1; params = a; args = b; decl = d }) ≡ gate_in t x
+      → Some (record { number = n - 1; params = a; args = b; decl = d }) ≡ gate_in t x
   unfolding gate_in
   gate_row_lem z a b d ea eb ed = rw (lt-ltb x 512 h, ne_eqb (word t x 0) 0 (λ q. z (e ∙ q)), e, ea, eb, ed) refl
 
   pub reg_row_lem : (n ≡ 0 → ⊥) → (sp m : ℕ) (c : Bool) → sp ≡ word t x 1 → m ≡ word t x 2 → c ≡ eqb n 2
-      → Row (record { name = x; span = sp; classical = c; size = m }) ≡ reg_in t x
+      → Some (record { name = x; span = sp; classical = c; size = m }) ≡ reg_in t x
   unfolding reg_in
   reg_row_lem z sp m c es em ec = rw (lt-ltb x 512 h, ne_eqb (word t x 0) 0 (λ q. z (e ∙ q)), ec, e, es, em) refl
 

@@ -1,2 +1,3 @@
 pub mod Tables
 pub mod Zeros
+pub mod Later

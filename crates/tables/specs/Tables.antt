@@ -1,5 +1,5 @@
 -- Tables by name number: four words a name, 512 names. What stands in one is what a name means, for any words.
-use Rattle.std.specs.Prelude.{◌≡◌, Bool, true, false, ◌⊎◌, length, get_or, set, eqb, ltb}
+use Rattle.std.specs.Prelude.{◌≡◌, Bool, true, false, ◌⊎◌, length, get_or, set, eqb, ltb, Option, Some, None}
 use Rattle.std.proofs.Math.Path.{refl}
 use Rattle.std.proofs.Common.{ap, ◌∙◌, ⊎_elim, add-zero, length-set, lit<, lit≤}
 use mathlib.Core.List.{List, [], ◌∷◌}
@@ -11,11 +11,7 @@ use borrow.Author.Tests.{eq-eqb, ne_eqb, lt-ltb}
 use Rattle.std.proofs.lemmas.List.Edits.{sets}
 use Rattle.std.proofs.Math.Seq.{length-sets, get_or-set_same, get_or-set_other}
 use Rattle.rules.specs.declared.Header.{Header}
-use Rattle.rules.specs.declared.FoundGate.{FoundGate}
-use Rattle.rules.specs.declared.FoundGate.TheVariants.{Known, Unknown}
 use Rattle.rules.specs.declared.Reg.{Reg}
-use Rattle.rules.specs.declared.Found.{Found}
-use Rattle.rules.specs.declared.Found.TheVariants.{Row, Nothing}
 use Rattle.rules.specs.Basics.{pick}
 use Rattle.rules.specs.Checking.{Scope}
 
@@ -28,16 +24,16 @@ word t x j = get_or t (4 * x + j) 0
 abbrev pub gate_row : List ℕ → ℕ → Header
 gate_row t x = record { number = word t x 0 - 1; params = word t x 1; args = word t x 2; decl = word t x 3 }
 
-unfoldable pub gate_in : List ℕ → ℕ → FoundGate
-gate_in t x = pick (ltb x 512) (pick (eqb (word t x 0) 0) Unknown (Known (gate_row t x))) Unknown
+unfoldable pub gate_in : List ℕ → ℕ → Option Header
+gate_in t x = pick (ltb x 512) (pick (eqb (word t x 0) 0) None (Some (gate_row t x))) None
 
 -- ---- registers or arguments: 1 quantum or 2 classical, the span, the size; and a parameter: 1 in the last word
 
 abbrev pub reg_row : List ℕ → ℕ → Reg
 reg_row t x = record { name = x; span = word t x 1; classical = eqb (word t x 0) 2; size = word t x 2 }
 
-unfoldable pub reg_in : List ℕ → ℕ → Found
-reg_in t x = pick (ltb x 512) (pick (eqb (word t x 0) 0) Nothing (Row (reg_row t x))) Nothing
+unfoldable pub reg_in : List ℕ → ℕ → Option Reg
+reg_in t x = pick (ltb x 512) (pick (eqb (word t x 0) 0) None (Some (reg_row t x))) None
 
 unfoldable pub param_in : List ℕ → ℕ → Bool
 param_in t x = pick (ltb x 512) (eqb (word t x 3) 1) false
@@ -92,7 +88,7 @@ module _ (t : List ℕ) (full : length t ≡ 2048) (x : ℕ) (h : x < 512) (ws :
 
 module _ (t : List ℕ) (full : length t ≡ 2048) (x : ℕ) (h : x < 512) where
   -- a gate's row
-  pub gate_set : (n a c d y : ℕ) → gate_in (row_set t x (suc n ∷ a ∷ c ∷ d ∷ [])) y ≡ pick (eqb x y) (Known (record { number = n; params = a; args = c; decl = d })) (gate_in t y)
+  pub gate_set : (n a c d y : ℕ) → gate_in (row_set t x (suc n ∷ a ∷ c ∷ d ∷ [])) y ≡ pick (eqb x y) (Some (record { number = n; params = a; args = c; decl = d })) (gate_in t y)
   unfolding gate_in
   gate_set n a c d y = elim (ℕ_discrete x y) [
     | yes e ↦
@@ -107,7 +103,7 @@ module _ (t : List ℕ) (full : length t ≡ 2048) (x : ℕ) (h : x < 512) where
   ]
 
   -- a register's or an argument's
-  pub reg_set : (k sp n y : ℕ) → (k ≡ 0 → ⊥) → reg_in (row_set t x (k ∷ sp ∷ n ∷ [])) y ≡ pick (eqb x y) (Row (record { name = x; span = sp; classical = eqb k 2; size = n })) (reg_in t y)
+  pub reg_set : (k sp n y : ℕ) → (k ≡ 0 → ⊥) → reg_in (row_set t x (k ∷ sp ∷ n ∷ [])) y ≡ pick (eqb x y) (Some (record { name = x; span = sp; classical = eqb k 2; size = n })) (reg_in t y)
   unfolding reg_in
   reg_set k sp n y some = elim (ℕ_discrete x y) [
     | yes e ↦

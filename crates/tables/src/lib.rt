@@ -4,71 +4,25 @@
 ghost use Rattle.std.specs.Prelude.{◌≡◌, ◌+◌, ◌*◌, ◌<◌, length, get_or, set, eqb, [], ◌∷◌};
 ghost use Rattle.tables.specs.Tables.{word, gate_in, reg_in, param_in, row_set, param_set};
 
-use rules::{Found, FoundGate, Header, Reg};
+use rules::{Header, Reg};
 
-// The word j of the name x, 0 where the table has none.
-fn word_at(t: &[u64], x: u64, j: u64) -> u64
-    requires { (x < 512) × (j < 4) }
-    ensures { result ≡ word t.now x j }
-{
-    let i = (4 * x + j) as usize;
-    if i < t.len() { t[i] } else { 0 }
+// What names stand for: a table of gates, and one of registers and parameters.
+#[derive(Clone, Copy)]
+pub struct Scope<'a> {
+    pub gates: &'a [u64],
+    pub regs: &'a [u64],
 }
 
-// What is known of a gate by its name.
-pub fn find_gate(t: &[u64], x: u64) -> FoundGate
-    ensures { result ≡ gate_in t.now x }
+// ---- words
+
+// The word at a place, 0 where the table has none.
+pub fn word(t: &[u64], i: usize) -> u64
+    ensures { result ≡ get_or t.now i 0 }
 {
-    if 512 <= x {
-        return FoundGate::Unknown;
-    }
-    let n = word_at(t, x, 0);
-    if n == 0 {
-        return FoundGate::Unknown;
-    }
-    FoundGate::Known(Header {
-        number: n - 1,
-        params: word_at(t, x, 1),
-        args: word_at(t, x, 2),
-        decl: word_at(t, x, 3),
-    })
+    t.get(i).copied().unwrap_or(0)
 }
 
-fn is_two(n: u64) -> bool
-    ensures { result ≡ eqb n 2 }
-{
-    n == 2
-}
-
-// What a name stands for: a register or an argument.
-pub fn find_reg(t: &[u64], x: u64) -> Found
-    ensures { result ≡ reg_in t.now x }
-{
-    if 512 <= x {
-        return Found::Nothing;
-    }
-    let kind = word_at(t, x, 0);
-    if kind == 0 {
-        return Found::Nothing;
-    }
-    Found::Row(Reg {
-        name: x,
-        span: word_at(t, x, 1),
-        classical: is_two(kind),
-        size: word_at(t, x, 2),
-    })
-}
-
-pub fn is_param(t: &[u64], x: u64) -> bool
-    ensures { result ≡ param_in t.now x }
-{
-    if 512 <= x {
-        return false;
-    }
-    word_at(t, x, 3) == 1
-}
-
-// A word stored, where the table has one.
+// A word stored, where the table has one. (By `get_mut` the proof did not close.)
 pub fn store(t: &mut [u64], i: usize, v: u64)
     ensures { t.new ≡ set t.old i v }
 {
@@ -76,6 +30,62 @@ pub fn store(t: &mut [u64], i: usize, v: u64)
         t[i] = v;
     }
 }
+
+// The word j of the name x.
+fn word_at(t: &[u64], x: u64, j: u64) -> u64
+    requires { (x < 512) × (j < 4) }
+    ensures { result ≡ word t.now x j }
+{
+    word(t, (4 * x + j) as usize)
+}
+
+// ---- what a name means: a table is words, so that one kind of table serves both (a kind is 1 or 2 in it, and 0 means that there is none)
+
+// What is known of a gate by its name.
+pub fn find_gate(t: &[u64], x: u64) -> Option<Header>
+    ensures { result ≡ gate_in t.now x }
+{
+    if 512 <= x {
+        return None;
+    }
+    let n = word_at(t, x, 0);
+    if n == 0 {
+        return None;
+    }
+    Some(Header {
+        number: n - 1,
+        params: word_at(t, x, 1),
+        args: word_at(t, x, 2),
+        decl: word_at(t, x, 3),
+    })
+}
+
+// What a name stands for: a register or an argument.
+pub fn find_reg(t: &[u64], x: u64) -> Option<Reg>
+    ensures { result ≡ reg_in t.now x }
+{
+    if 512 <= x {
+        return None;
+    }
+    let kind = word_at(t, x, 0);
+    if kind == 0 {
+        return None;
+    }
+    Some(Reg {
+        name: x,
+        span: word_at(t, x, 1),
+        classical: kind == 2,
+        size: word_at(t, x, 2),
+    })
+}
+
+pub fn is_param(t: &[u64], x: u64) -> bool
+    ensures { result ≡ param_in t.now x }
+{
+    x < 512 && word_at(t, x, 3) == 1
+}
+
+// ---- rows set
 
 // A gate's row: its number and one more, its counts, its declaration span.
 pub fn set_gate(t: &mut [u64], x: u64, row: u64, params: u64, args: u64, decl: u64)

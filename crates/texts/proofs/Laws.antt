@@ -1,20 +1,22 @@
 -- The ways out of each function on a text, over plain variables; of a loop, what is left from the place where a turn begins.
+use Rattle.std.proofs.Common.{Bool, true, false, Option, Some, None, cond, ltb, ltb-false, subst, add-zero}
+use Rattle.std.specs.Option.{unwrap_or, option_map}
+use Rattle.std.specs.List.{find, fold, range_with_len, before_first, after_first, position_or_len, count_by, AllZip}
+use Rattle.std.proofs.lemmas.List.{length-drop}
+use Rattle.std.proofs.lemmas.List.Sums.{sum_by-cons}
 use mathlib.Core.Path.{◌≡◌, refl, ap, sym, ◌∙◌}
 use mathlib.Core.List.{List, [], ◌∷◌}
 use Prim.Native.Nat.{ℕ, zero, suc, ◌+◌, ◌-◌, ◌*◌, ◌≤◌, ◌<◌}
 use native.Mathlib.Numerals.{add-one}
 use native.Mathlib.Omega.{arith}
-use borrow.Author.Tests.{eq-eqb, ne_eqb, lt-ltb, le-ltb, le-leb, lt-leb}
-use lib.ListN.{length, get_or, get_or-eq_default}
+use borrow.Author.Tests.{lt-ltb, le-ltb, le-leb, lt-leb}
+use lib.ListN.{length, get_or}
 use lib.Dec.{eqb}
 use Rattle.rules.specs.Basics.{pick, first_from}
 use Rattle.output.specs.Bytes.{Wrote, wrote_then, wrote_none}
-use Rattle.texts.specs.Text.{place_of, push, number_in, nibble_of, byte_of, hex_in}
+use Rattle.texts.specs.Text.{push, number_in, nibble_of, byte_of, hex_in, lines_below, lines_of}
 
--- ---- a byte, and what a digit is
-
-pub at_end : (s : List ℕ) (i : ℕ) → length s ≤ i → 0 ≡ get_or s i 0
-at_end s i h = sym (get_or-eq_default s 0 h)
+-- ---- what a digit is
 
 module _ (c : ℕ) where
   pub nibble_1 : c < 48 → 0 ≡ nibble_of c
@@ -29,9 +31,13 @@ module _ (c : ℕ) where
   unfolding nibble_of
   nibble_3 g h j = simp (le-ltb _ _ g, lt-leb _ _ h, lt-ltb _ _ j)
 
-  pub nibble_4 : 48 ≤ c → 57 < c → 97 ≤ c → c ≤ 102 → c - 87 ≡ nibble_of c
+  pub nibble_4 : 97 ≤ c → c ≤ 102 → c - 97 + 10 ≡ nibble_of c
   unfolding nibble_of
-  nibble_4 g h j k = simp (le-ltb _ _ g, lt-leb _ _ h, le-ltb _ _ j, le-leb _ _ k)
+  nibble_4 j k =
+      let digit : 48 ≤ c = omega arith in
+      let letter : 57 < c = omega arith in
+      let value : c - 97 + 10 ≡ c - 87 = omega arith in
+      value ∙ simp (le-ltb _ _ digit, lt-leb _ _ letter, le-ltb _ _ j, le-leb _ _ k)
 
   pub nibble_5 : 48 ≤ c → 57 < c → 97 ≤ c → 102 < c → 0 ≡ nibble_of c
   unfolding nibble_of
@@ -60,33 +66,114 @@ pub ruleset pushes = (push_1, push_2, push_3, push_4)
 
 -- ---- the place of a byte
 
-module _ (s : List ℕ) (b i to x : ℕ) (so_far : place_of s b (to - i) i ≡ x) where
-  place_step : i < to → place_of s b (to - i) i ≡ pick (eqb (get_or s i 0) b) i (place_of s b (to - (i + 1)) (i + 1))
-  unfolding first_from
-  place_step h = let z : to - i ≡ suc (to - (i + 1)) = omega arith in ap (λ (n : ℕ). place_of s b n i) z ∙ (rw (add-one i) refl)
+chosen : (b : Bool) (i d x : ℕ) (o : Option ℕ) → unwrap_or o d ≡ x → unwrap_or (cond b (Some i) o) d ≡ pick b i x
+chosen true i d x o h = refl
+chosen false i d x o h = h
 
-  pub place_hit : (c : ℕ) → c ≡ get_or s i 0 → i < to → c ≡ b → i ≡ x
-  place_hit c e h k = sym (sym so_far ∙ place_step h ∙ simp (eq-eqb _ _ (sym e ∙ k)))
+-- the search that `find` makes
+pub first_in_range : (p : ℕ → Bool) (k i d : ℕ) → d ≡ i + k → unwrap_or (find p (range_with_len i k)) d ≡ first_from k i p
+unfolding first_from
+first_in_range p zero i d e = let z : d ≡ i = omega arith in z
+first_in_range p (suc k) i d e = chosen (p i) i d _ _ (rw (add-one i) (first_in_range p k (suc i) d (omega arith)))
 
-  pub place_miss : (c : ℕ) → c ≡ get_or s i 0 → i < to → (c ≡ b → ⊥) → place_of s b (to - (i + 1)) (i + 1) ≡ x
-  place_miss c e h k = sym (sym so_far ∙ place_step h ∙ simp (ne_eqb _ _ (λ q. k (e ∙ q))))
+not_before : (b : Bool) (i x : ℕ) → i ≤ x → i ≤ pick b i x
+not_before true i x h = omega arith
+not_before false i x h = h
 
-  pub place_end : to ≤ i → i ≡ x
-  unfolding first_from
-  place_end h = let z : 0 ≡ to - i = omega arith in ap (λ (n : ℕ). place_of s b n i) z ∙ so_far
+pub first_from-ge : (p : ℕ → Bool) (k i : ℕ) → i ≤ first_from k i p
+unfolding first_from
+first_from-ge p zero i = omega arith
+first_from-ge p (suc k) i = not_before (p i) i _ (let h : suc i ≤ first_from k (suc i) p = first_from-ge p k (suc i) in omega arith)
+
+pub itself : (r : Option ℕ) → option_map (λ (x : ℕ). x) r ≡ r
+itself None = refl
+itself (Some x) = refl
+
+-- what `position` answers
+pub found_is : (p n i : ℕ) → cond (ltb p n) (Some p) None ≡ Some i → i ≡ p
+found_is p n i e = go (ltb p n) e
+  where
+    go : (b : Bool) → cond b (Some p) None ≡ Some i → i ≡ p
+    go true e = cc
+    go false e = absurd (cc)
+
+pub none_is : (p n : ℕ) → cond (ltb p n) (Some p) None ≡ None → n ≤ p
+none_is p n e = go (ltb p n) refl
+  where
+    go : (b : Bool) → ltb p n ≡ b → n ≤ p
+    go true h = absurd (let z : Some p ≡ None = sym (ap (λ (b : Bool). cond b (Some p) None) h) ∙ e in cc)
+    go false h = ltb-false _ _ h
 
 -- ---- a number
 
-module _ (s : List ℕ) (i to n x : ℕ) (so_far : number_in s (to - i) i n ≡ x) where
-  pub number_step : (c m : ℕ) → c ≡ get_or s i 0 → m ≡ push n c → i < to → number_in s (to - (i + 1)) (i + 1) m ≡ x
-  unfolding number_in
-  number_step c m e k h =
-      let z : to - i ≡ suc (to - (i + 1)) = omega arith in
-      sym (sym so_far ∙ ap (λ (j : ℕ). number_in s j i n) z ∙ (rw (add-one i, k, e) refl))
+-- the sum that `fold` makes
+pub number_is_fold : (s : List ℕ) (k i n : ℕ) → fold (λ m j. push m (get_or s j 0)) n (range_with_len i k) ≡ number_in s k i n
+unfolding number_in
+number_is_fold s zero i n = refl
+number_is_fold s (suc k) i n = rw (add-one i) (number_is_fold s k (suc i) (push n (get_or s i 0)))
 
-  pub number_end : to ≤ i → n ≡ x
-  unfolding number_in
-  number_end h = let z : 0 ≡ to - i = omega arith in ap (λ (j : ℕ). number_in s j i n) z ∙ so_far
+-- ---- lines
+
+-- as many as there are bytes are enough
+lines_enough : (k j : ℕ) (s : List ℕ) → length s ≤ k → length s ≤ j → lines_below k s ≡ lines_below j s
+unfolding lines_below
+lines_enough zero zero s h g = refl
+lines_enough zero (suc j) [] h g = refl
+lines_enough zero (suc j) (x ∷ s) h g = absurd (omega arith)
+lines_enough (suc k) zero [] h g = refl
+lines_enough (suc k) zero (x ∷ s) h g = absurd (omega arith)
+lines_enough (suc k) (suc j) [] h g = refl
+lines_enough (suc k) (suc j) (x ∷ s) h g =
+    let behind = after_first (λ c. eqb c 10) (x ∷ s) in
+    let less : length behind ≤ length s = omega (arith, length-drop (position_or_len (λ c. eqb c 10) (x ∷ s) + 1) (x ∷ s)) in
+    ap (λ l. before_first (λ c. eqb c 10) (x ∷ s) ∷ l) (lines_enough k j behind (omega arith) (omega arith))
+
+pub lines_none : (s : List ℕ) → length s ≡ 0 → lines_of s ≡ []
+unfolding lines_below
+lines_none [] h = refl
+lines_none (x ∷ s) h = absurd (omega arith)
+
+pub lines_some : (s : List ℕ) → 0 < length s → lines_of s ≡ before_first (λ c. eqb c 10) s ∷ lines_of (after_first (λ c. eqb c 10) s)
+unfolding lines_below
+lines_some [] h = absurd (omega arith)
+lines_some (x ∷ s) h =
+    let behind = after_first (λ c. eqb c 10) (x ∷ s) in
+    let less : length behind ≤ length s = omega (arith, length-drop (position_or_len (λ c. eqb c 10) (x ∷ s) + 1) (x ∷ s)) in
+    ap (λ l. before_first (λ c. eqb c 10) (x ∷ s) ∷ l) (lines_enough (length s) (length behind) behind less (omega arith))
+
+pub lines_bound : (k : ℕ) (s : List ℕ) → length (lines_below k s) ≤ k
+unfolding lines_below
+lines_bound zero s = omega arith
+lines_bound (suc k) [] = omega arith
+lines_bound (suc k) (x ∷ s) = let h = lines_bound k (after_first (λ c. eqb c 10) (x ∷ s)) in omega arith
+
+-- what was counted, and what comes behind it, make up the whole
+pub record Counted (P : List ℕ → Bool → Type 0) (all left : List (List ℕ)) (cases right : ℕ) : Type 0 where
+  pub cases_all : cases + length left ≡ length all
+  pub right_all : (bs : List Bool) → AllZip P left bs → (cs : List Bool) × AllZip P all cs × (right + count_by (λ b. b) bs ≡ count_by (λ b. b) cs)
+
+module _ (P : List ℕ → Bool → Type 0) (all left rest : List (List ℕ)) (line : List ℕ) (cases right : ℕ) (so_far : Counted P all left cases right) (e : left ≡ line ∷ rest) where
+  counted_more : (b : Bool) → P line b → Counted P all rest (cases + 1) (right + cond b 1 0)
+  counted_more b p = record {
+    cases_all = let n : length left ≡ suc (length rest) = ap length e in omega (arith, so_far.cases_all);
+    right_all = λ bs h.
+        let one : count_by (λ a. a) (b ∷ bs) ≡ cond b 1 0 + count_by (λ a. a) bs = sum_by-cons (λ a. cond a 1 0) b bs in
+        let q = so_far.right_all (b ∷ bs) (subst (λ l. AllZip P l (b ∷ bs)) (sym e) (p, h)) in
+        (q.0, q.1, omega (arith, q.2));
+  }
+
+  pub counted_yes : P line true → Counted P all rest (cases + 1) (right + 1)
+  counted_yes p = counted_more true p
+
+  pub counted_no : P line false → Counted P all rest (cases + 1) right
+  counted_no p = rw add-zero at (counted_more false p)
+
+pub counted_end : (P : List ℕ → Bool → Type 0) (all left : List (List ℕ)) (cases right : ℕ) → Counted P all left cases right → left ≡ []
+    → (cases ≡ length all) × ((cs : List Bool) × AllZip P all cs × (right ≡ count_by (λ b. b) cs))
+counted_end P all left cases right so_far e =
+    let n : length left ≡ 0 = ap length e in
+    let q = so_far.right_all [] (subst (λ l. AllZip P l []) (sym e) tt) in
+    (omega (arith, so_far.cases_all), (q.0, q.1, omega (arith, q.2)))
 
 -- ---- bytes in hex
 
@@ -97,16 +184,16 @@ pub record Owes (o₀ : List ℕ) (n : ℕ) (all : List ℕ) (o : List ℕ) (m :
 pub owes_all : (o : List ℕ) (n : ℕ) (all : List ℕ) → Owes o n all o n all
 owes_all o n all = record { pays = λ o' q w. w }
 
-module _ (o₀ o s : List ℕ) (n m i to digits : ℕ) (all : List ℕ) (owes : Owes o₀ n all o m (hex_in (to - i) s i)) (are : digits ≡ to - i) where
-  pub hex_turn : (high low b : ℕ) (o₁ : List ℕ) (m₁ : ℕ) → high ≡ get_or s i 0 → low ≡ get_or s (i + 1) 0 → b ≡ byte_of high low → Wrote o m (b ∷ []) o₁ m₁
-      → 2 ≤ digits → Owes o₀ n all o₁ m₁ (hex_in (to - (i + 2)) s (i + 2))
+module _ (o₀ o s : List ℕ) (n m i to : ℕ) (all : List ℕ) (owes : Owes o₀ n all o m (hex_in (to - i) s i)) where
+  pub hex_turn : (high low b : ℕ) (o₁ : List ℕ) (m₁ j : ℕ) → high ≡ get_or s i 0 → low ≡ get_or s (i + 1) 0 → b ≡ byte_of high low → Wrote o m (b ∷ []) o₁ m₁
+      → i + 2 ≤ to → j ≡ i + 2 → Owes o₀ n all o₁ m₁ (hex_in (to - j) s j)
   unfolding hex_in
-  hex_turn high low b o₁ m₁ eh el eb v h =
+  hex_turn high low b o₁ m₁ j eh el eb v h next =
       let z : to - i ≡ suc (suc (to - (i + 2))) = omega arith in
       let e : hex_in (to - i) s i ≡ b ∷ hex_in (to - (i + 2)) s (i + 2) = ap (λ (j : ℕ). hex_in j s i) z ∙ (rw (eb, eh, el) refl) in
-      record { pays = λ o' q w. owes.pays o' q (rw e (wrote_then v w)) }
+      rw next (record { pays = λ o' q w. owes.pays o' q (rw e (wrote_then v w)) })
 
-  pub hex_end : digits < 2 → Wrote o₀ n all o m
+  pub hex_end : to < i + 2 → Wrote o₀ n all o m
   unfolding hex_in
   hex_end h = owes.pays o m (go (to - i) refl)
     where

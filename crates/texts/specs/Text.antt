@@ -1,5 +1,7 @@
 -- What stands in a text, a list of bytes: each by the place where it begins and the number of bytes that it has.
 use Rattle.std.specs.Prelude.{ℕ, zero, suc, ◌+◌, ◌-◌, ◌*◌, List, [], ◌∷◌, get_or, ltb, leb, eqb}
+use Rattle.std.specs.Prelude.{length}
+use Rattle.std.specs.List.{before_first, after_first}
 use Rattle.rules.specs.Basics.{pick, first_from}
 
 -- the place of the next b among so many, and the place after them where there is none
@@ -27,3 +29,12 @@ unfoldable pub hex_in : (many : ℕ) → List ℕ → ℕ → List ℕ
 hex_in zero s i = []
 hex_in (suc zero) s i = []
 hex_in (suc (suc k)) s i = byte_of (get_or s i 0) (get_or s (i + 1) 0) ∷ hex_in k s (i + 2)
+
+-- the first so many lines, each without the byte 10 that ends it; where nothing stands there is no line
+unfoldable pub lines_below : (many : ℕ) → List ℕ → List (List ℕ)
+lines_below zero s = []
+lines_below (suc k) [] = []
+lines_below (suc k) (x ∷ s) = before_first (λ c. eqb c 10) (x ∷ s) ∷ lines_below k (after_first (λ c. eqb c 10) (x ∷ s))
+
+abbrev pub lines_of : List ℕ → List (List ℕ)
+lines_of s = lines_below (length s) s

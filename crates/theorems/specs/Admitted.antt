@@ -1,7 +1,6 @@
 -- What a program without errors has: statements that pass, registers that are not empty, and no cycle.
-use Rattle.std.specs.Prelude.{◌≡◌, refl, Bool, true, ℕ, zero, suc, ◌<◌, T, eqb, length}
+use Rattle.std.specs.Prelude.{◌≡◌, refl, Bool, true, ℕ, zero, suc, ◌<◌, T, eqb, length, Option, Some, None}
 use Rattle.std.proofs.Common.{sym, ap, ◌∙◌, subst, inl, inr, arith}
-use Rattle.std.proofs.Math.Option.{Option, none, some}
 use mathlib.Core.List.{List, [], ◌∷◌, ◌++◌, cons≢nil}
 use Rattle.rules.specs.declared.Reg.{Reg}
 use Rattle.rules.specs.Basics.{pick}
@@ -57,15 +56,15 @@ body_errors_lem gs (top s ∷ ds) g e d = body_errors_lem gs ds g e d
 
 -- every statement of the body passes
 abbrev pub pass_body : List Gate → Gate → Option (List Stmt) → Bool
-pass_body gs g none = true
-pass_body gs g (some ss) = pass_all (body_scope gs g) ss
+pass_body gs g None = true
+pass_body gs g (Some ss) = pass_all (body_scope gs g) ss
 
 pass_all_lem : (C : Scope) (ss : List Stmt) → stmts_errors C ss ≡ [] → T (pass_all C ss)
 pass_all_lem C ss e = subst T (stmts_clear C ss) (nil_clear (stmts_errors C ss) e)
 
 pass_body_lem : (gs : List Gate) (g : Gate) (b : Option (List Stmt)) → body_errors (body_scope gs g) b ≡ [] → T (pass_body gs g b)
-pass_body_lem gs g none e = tt
-pass_body_lem gs g (some ss) e = pass_all_lem (body_scope gs g) ss e
+pass_body_lem gs g None e = tt
+pass_body_lem gs g (Some ss) e = pass_all_lem (body_scope gs g) ss e
 
 -- ---- a program whose errors, recursion aside, are none
 

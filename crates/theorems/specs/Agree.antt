@@ -1,17 +1,14 @@
 -- Check and run agree: a statement's errors are none just where it passes the tests that its run makes before it calls a gate.
-use Rattle.std.specs.Prelude.{◌≡◌, refl, Bool, true, false, not, ◌&&◌, ◌||◌, List, [], ◌∷◌, ◌++◌, map, ℕ, ◌^◌, T, ltb, leb, eqb, length}
+use Rattle.rules.specs.declared.Reg.{Reg}
+use Rattle.rules.specs.declared.Header.{Header}
+use Rattle.std.specs.Prelude.{◌≡◌, refl, Bool, true, false, not, ◌&&◌, ◌||◌, List, [], ◌∷◌, ◌++◌, map, ℕ, ◌^◌, T, ltb, leb, eqb, length, Option, Some, None}
 use Rattle.std.proofs.Common.{sym, ap, ap₂, ◌∙◌, subst, arith, eqb→eq, leb→le, le→leb, ltb→lt, lt→ltb, T_not}
 use Rattle.std.specs.Bool.{beq}
 use Rattle.std.proofs.Math.Bool.{and_comm}
-use Rattle.std.proofs.Math.Option.{Option, none, some}
 use Rattle.std.proofs.Math.Decide.{dec_le}
 use Rattle.std.proofs.Math.Dec.{leb-suc-suc, eqb_refl, not_T}
 use Rattle.rules.specs.declared.Operand.{Operand}
-use Rattle.rules.specs.declared.FoundGate.{FoundGate}
-use Rattle.rules.specs.declared.FoundGate.TheVariants.{Known, Unknown}
 use Rattle.rules.specs.declared.Match.{Match}
-use Rattle.rules.specs.declared.Found.{Found}
-use Rattle.rules.specs.declared.Found.TheVariants.{Row, Nothing}
 use Rattle.rules.specs.Basics.{pick}
 use Rattle.rules.specs.Syntax.{Expr, pi, real, int, var, two, one, Stmt, u, cx, measure, reset, barrier, call, if, missing}
 use Rattle.rules.specs.Errors.{Error}
@@ -60,8 +57,8 @@ not_reached a b = bool_same (not (leb a b)) (ltb b a)
 -- ---- operands
 
 abbrev pub is : {A : Type 0} → Option A → Bool
-is none = false
-is (some x) = true
+is None = false
+is (Some x) = true
 
 -- the size of an operand is not a matter of the statement: its span goes into the errors alone
 row_same : (kind indexed inside : Bool) (n : ℕ) (d e f g : Error)
@@ -72,15 +69,15 @@ row_same true true false n d e f g = refl
 row_same true false c n d e f g = refl
 row_same false b c n d e f g = refl
 
-size_same : (find : ℕ → Found) (stmt : ℕ) (q : Asked) → size_only (assert_reg find stmt q) ≡ size_only (assert_reg find 0 q)
+size_same : (find : ℕ → Option Reg) (stmt : ℕ) (q : Asked) → size_only (assert_reg find stmt q) ≡ size_only (assert_reg find 0 q)
 unfolding assert_reg
 size_same find stmt q = found (find q.operand.name)
   where
-    found : (f : Found) → size_only (found_size f stmt q) ≡ size_only (found_size f 0 q)
-    found Nothing = refl
-    found (Row r) = row_same (beq r.classical q.classical) q.operand.indexed (ltb q.operand.index r.size) r.size _ _ _ _
+    found : (f : Option Reg) → size_only (found_size f stmt q) ≡ size_only (found_size f 0 q)
+    found None = refl
+    found (Some r) = row_same (beq r.classical q.classical) q.operand.indexed (ltb q.operand.index r.size) r.size _ _ _ _
 
-size_only_lem : (z : Sized) (n : ℕ) → size_only z ≡ some n → z ≡ size n
+size_only_lem : (z : Sized) (n : ℕ) → size_only z ≡ Some n → z ≡ size n
 size_only_lem (size m) n e = cc
 size_only_lem (bad x) n e = let k : ◌≡◌ {A = ℕ} 0 1 = cc in absurd (omega arith)
 
@@ -89,24 +86,24 @@ pub record Sizes (C : Scope) (q : Asked) (qs : List Asked) (ns : List ℕ) : Typ
   pub head : ℕ
   pub tail : List ℕ
   pub one : (stmt : ℕ) → assert_reg C.regs stmt q ≡ size head
-  pub rest : sizes C qs ≡ some tail
+  pub rest : sizes C qs ≡ Some tail
   pub all : ns ≡ head ∷ tail
 
-pub sizes_cons : (C : Scope) (q : Asked) (qs : List Asked) (ns : List ℕ) → sizes C (q ∷ qs) ≡ some ns → Sizes C q qs ns
+pub sizes_cons : (C : Scope) (q : Asked) (qs : List Asked) (ns : List ℕ) → sizes C (q ∷ qs) ≡ Some ns → Sizes C q qs ns
 unfolding sizes
 sizes_cons C q qs ns e = go (size_only (assert_reg C.regs 0 q)) refl (sizes C qs) refl e
   where
-    go : (x : Option ℕ) → size_only (assert_reg C.regs 0 q) ≡ x → (l : Option (List ℕ)) → sizes C qs ≡ l → and_sizes x l ≡ some ns → Sizes C q qs ns
-    go none p l r e = let k : ◌≡◌ {A = ℕ} 0 1 = cc in absurd (omega arith)
-    go (some n) p none r e = let k : ◌≡◌ {A = ℕ} 0 1 = cc in absurd (omega arith)
-    go (some n) p (some l) r e =
+    go : (x : Option ℕ) → size_only (assert_reg C.regs 0 q) ≡ x → (l : Option (List ℕ)) → sizes C qs ≡ l → and_sizes x l ≡ Some ns → Sizes C q qs ns
+    go None p l r e = let k : ◌≡◌ {A = ℕ} 0 1 = cc in absurd (omega arith)
+    go (Some n) p None r e = let k : ◌≡◌ {A = ℕ} 0 1 = cc in absurd (omega arith)
+    go (Some n) p (Some l) r e =
         record { head = n; tail = l; one = λ stmt. size_only_lem (assert_reg C.regs stmt q) n (size_same C.regs stmt q ∙ p); rest = r; all = cc }
 
-pub sizes_nil : (C : Scope) (ns : List ℕ) → sizes C [] ≡ some ns → ns ≡ []
+pub sizes_nil : (C : Scope) (ns : List ℕ) → sizes C [] ≡ Some ns → ns ≡ []
 unfolding sizes
 sizes_nil C ns e = cc
 
-sized_clear : (find : ℕ → Found) (stmt : ℕ) (q : Asked) → clear (sized_errors (assert_reg find stmt q)) ≡ is (size_only (assert_reg find 0 q))
+sized_clear : (find : ℕ → Option Reg) (stmt : ℕ) (q : Asked) → clear (sized_errors (assert_reg find stmt q)) ≡ is (size_only (assert_reg find 0 q))
 sized_clear find stmt q = go (assert_reg find stmt q) ∙ ap is (size_same find stmt q)
   where
     go : (z : Sized) → clear (sized_errors z) ≡ is (size_only z)
@@ -114,9 +111,9 @@ sized_clear find stmt q = go (assert_reg find stmt q) ∙ ap is (size_same find 
     go (bad e) = refl
 
 is_and : (x : Option ℕ) (l : Option (List ℕ)) → is (and_sizes x l) ≡ (is x && is l)
-is_and none l = refl
-is_and (some n) none = refl
-is_and (some n) (some l) = refl
+is_and None l = refl
+is_and (Some n) None = refl
+is_and (Some n) (Some l) = refl
 
 operands_clear : (C : Scope) (stmt : ℕ) (qs : List Asked) → clear (operand_errors C.regs stmt qs) ≡ is (sizes C qs)
 unfolding operand_errors sizes
@@ -130,8 +127,8 @@ operands_clear C stmt (q ∷ qs) =
 
 -- the operands have sizes, and these pair
 abbrev pub pairing : Option (List ℕ) → Bool
-pairing none = false
-pairing (some ns) = paired (common ns) ns
+pairing None = false
+pairing (Some ns) = paired (common ns) ns
 
 not_both : (a b : Bool) → not (a && not b) ≡ (not a || b)
 not_both true true = refl
@@ -158,7 +155,7 @@ fixes_clear n k = go (eqb n 1) refl
         bool_same (leb n 1 || eqb n n) (leb n 1 || eqb n k) (λ _. or_left (leb n 1) (eqb n k) t) (λ _. or_left (leb n 1) (eqb n n) t)
     go false e = refl
 
-match_clear : (C : Scope) (stmt : ℕ) (m : Match) (qs : List Asked) (ns : List ℕ) → sizes C qs ≡ some ns
+match_clear : (C : Scope) (stmt : ℕ) (m : Match) (qs : List Asked) (ns : List ℕ) → sizes C qs ≡ Some ns
     → clear (match_errors C.regs stmt m qs) ≡ paired (settled m.size ns) ns
 unfolding match_errors paired common
 match_clear C stmt m [] ns e = rw (sizes_nil C ns e)
@@ -192,17 +189,17 @@ matched_clear C stmt qs =
     ∙ ap (λ (b : Bool). b && clear (match_errors C.regs stmt unfixed qs)) (operands_clear C stmt qs) ∙ go (sizes C qs) refl
   where
     go : (l : Option (List ℕ)) → sizes C qs ≡ l → (is l && clear (match_errors C.regs stmt unfixed qs)) ≡ pairing l
-    go none e = refl
-    go (some ns) e = match_clear C stmt unfixed qs ns e
+    go None e = refl
+    go (Some ns) e = match_clear C stmt unfixed qs ns e
 
 -- one operand always pairs with itself
 one_pairs : (C : Scope) (q : Asked) → is (sizes C (q ∷ [])) ≡ pairing (sizes C (q ∷ []))
 unfolding sizes paired common
 one_pairs C q = go (size_only (assert_reg C.regs 0 q))
   where
-    go : (x : Option ℕ) → is (and_sizes x (some [])) ≡ pairing (and_sizes x (some []))
-    go none = refl
-    go (some n) =
+    go : (x : Option ℕ) → is (and_sizes x (Some [])) ≡ pairing (and_sizes x (Some []))
+    go None = refl
+    go (Some n) =
         let t : T (leb n 1 || eqb n (common (n ∷ []))) = subst T (fixes_clear n 1) (or_right (leb n 1) (eqb n n) (eqb_refl n)) in
         bool_same true (paired (common (n ∷ [])) (n ∷ [])) (λ _. T_and (leb n 1 || eqb n (common (n ∷ []))) true t tt) (λ _. tt)
 
@@ -226,17 +223,17 @@ exprs_clear param stmt (e ∷ es) =
 
 -- the operand has a size, and the value fits it
 abbrev pub fits : ℕ → Option ℕ → Bool
-fits v none = false
-fits v (some w) = ltb v (2 ^ w)
+fits v None = false
+fits v (Some w) = ltb v (2 ^ w)
 
 -- a gate with these counts is known
-abbrev pub callable : FoundGate → (params args : ℕ) → Bool
-callable Unknown params args = false
-callable (Known h) params args = eqb h.params params && eqb h.args args
+abbrev pub callable : Option Header → (params args : ℕ) → Bool
+callable None params args = false
+callable (Some h) params args = eqb h.params params && eqb h.args args
 
-arity_clear : (found : FoundGate) (stmt sp x params args : ℕ) → clear (arity_errors found stmt sp x params args) ≡ callable found params args
-arity_clear Unknown stmt sp x params args = refl
-arity_clear (Known h) stmt sp x params args =
+arity_clear : (found : Option Header) (stmt sp x params args : ℕ) → clear (arity_errors found stmt sp x params args) ≡ callable found params args
+arity_clear None stmt sp x params args = refl
+arity_clear (Some h) stmt sp x params args =
     clear_append (pick (eqb h.params params) [] (_ ∷ [])) (pick (eqb h.args args) [] (_ ∷ []))
     ∙ ap₂ (λ (a b : Bool). a && b) (clear_unless (eqb h.params params) _) (clear_unless (eqb h.args args) _)
 
@@ -257,7 +254,7 @@ unfoldable pub pass_all : Scope → List Stmt → Bool
 pass_all C [] = true
 pass_all C (s ∷ ss) = passes C s && pass_all C ss
 
-if_clear : (find : ℕ → Found) (sp vs v : ℕ) (o : Operand) (es : List Error)
+if_clear : (find : ℕ → Option Reg) (sp vs v : ℕ) (o : Operand) (es : List Error)
     → clear (operand_errors find sp (classic o ∷ []) ++ (es ++ compare_errors (assert_reg find sp (classic o)) sp o vs v))
     ≡ (fits v (size_only (assert_reg find 0 (classic o))) && clear es)
 unfolding operand_errors compare_errors

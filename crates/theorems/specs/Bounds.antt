@@ -1,17 +1,14 @@
 -- The error list of an image that is read is short: its errors and its bytes can be counted in 64 bits.
-use Rattle.std.specs.Prelude.{◌≡◌, Bool, true, false, not, ◌&&◌, List, [], ◌∷◌, ◌++◌, map, ℕ, suc, ◌+◌, ◌*◌, ◌^◌, ◌≤◌, ◌<◌, ltb, leb, eqb, length}
+use Rattle.rules.specs.declared.Header.{Header}
+use Rattle.std.specs.Prelude.{◌≡◌, Bool, true, false, not, ◌&&◌, List, [], ◌∷◌, ◌++◌, map, ℕ, suc, ◌+◌, ◌*◌, ◌^◌, ◌≤◌, ◌<◌, ltb, leb, eqb, length, Option, Some, None}
 use Rattle.std.specs.Bool.{beq}
-use Rattle.std.proofs.Math.Option.{Option, none, some}
 use Rattle.std.proofs.Common.{mul-le-mul_right, arith, length-append}
 use Rattle.rules.specs.declared.Operand.{Operand}
-use Rattle.rules.specs.declared.FoundGate.{FoundGate}
-use Rattle.rules.specs.declared.FoundGate.TheVariants.{Known, Unknown}
 use Rattle.rules.specs.declared.Match.{Match}
 use Rattle.rules.specs.declared.Reg.{Reg}
-use Rattle.rules.specs.declared.Found.{Found}
-use Rattle.rules.specs.declared.Found.TheVariants.{Row, Nothing}
 use Rattle.rules.specs.Basics.{pick}
-use Rattle.rules.specs.Syntax.{Expr, pi, real, int, var, two, one, Named, Stmt, u, cx, measure, reset, barrier, call, if, missing, Gate, Decl, include, reg, gate, top, Program}
+use Rattle.rules.specs.declared.Named.{Named}
+use Rattle.rules.specs.Syntax.{Expr, pi, real, int, var, two, one, Stmt, u, cx, measure, reset, barrier, call, if, missing, Gate, Decl, include, reg, gate, top, Program}
 use Rattle.rules.specs.Grouping.{program, read}
 use Rattle.rules.specs.Errors.{Error, redefined_gate, redefined_argument, redefined_parameter, recursive_definition, zero_size_register, redefined_register, undefined_parameter, invalid_comparison_size, wrong_argument_arity, wrong_parameter_arity, undefined_gate, wrong_operand_size, invalid_register_index, wrong_register_type, undefined_register, pair_bytes, error_field}
 use Rattle.rules.specs.Checking.{header, entered, entries, is_gate, gates_of, latest, argument, register, size_of, Scope, body_scope, top_scope, repeated, repeats, header_errors, decl_errors, redeclared, register_errors, reg_errors, Asked, quantum, classic, Sized, size, bad, found_size, assert_reg, sized_errors, operand_errors, unfixed, fixed, differs, match_errors, expr_errors, exprs_errors, compare_errors, arity_errors, matched, stmt_errors, stmts_errors, top_errors, body_errors, def_errors, local_errors}
@@ -90,17 +87,17 @@ row_up true true false n d e x y = x
 row_up true false c n d e x y = none_up
 row_up false b c n d e x y = y
 
-sized_up : (find : ℕ → Found) (stmt : ℕ) (q : Asked) → Up-to 1 (sized_errors (assert_reg find stmt q))
+sized_up : (find : ℕ → Option Reg) (stmt : ℕ) (q : Asked) → Up-to 1 (sized_errors (assert_reg find stmt q))
 unfolding assert_reg bytes flat error_field
 sized_up find stmt q = go (find q.operand.name)
   where
-    go : (f : Found) → Up-to 1 (sized_errors (found_size f stmt q))
-    go Nothing = up (omega arith)
-    go (Row r) =
+    go : (f : Option Reg) → Up-to 1 (sized_errors (found_size f stmt q))
+    go None = up (omega arith)
+    go (Some r) =
         row_up (beq r.classical q.classical) q.operand.indexed (ltb q.operand.index r.size) r.size _ _
         (up (omega arith)) (up (omega arith))
 
-operands_up : (find : ℕ → Found) (stmt : ℕ) (qs : List Asked) → Up-to (length qs) (operand_errors find stmt qs)
+operands_up : (find : ℕ → Option Reg) (stmt : ℕ) (qs : List Asked) → Up-to (length qs) (operand_errors find stmt qs)
 unfolding operand_errors
 operands_up find stmt [] = none_up
 operands_up find stmt (q ∷ qs) = wider (join (sized_up find stmt q) (operands_up find stmt qs)) (omega arith)
@@ -110,14 +107,14 @@ unfolding bytes flat error_field
 differs_up m stmt (bad e) span = none_up
 differs_up m stmt (size n) span = where_up (ltb 1 n && not (eqb n m.size)) _ (up (omega arith))
 
-match_up : (find : ℕ → Found) (stmt : ℕ) (m : Match) (qs : List Asked) → Up-to (length qs) (match_errors find stmt m qs)
+match_up : (find : ℕ → Option Reg) (stmt : ℕ) (m : Match) (qs : List Asked) → Up-to (length qs) (match_errors find stmt m qs)
 unfolding match_errors
 match_up find stmt m [] = none_up
 match_up find stmt m (q ∷ qs) =
     let now : Match = fixed m (assert_reg find stmt q) q.operand.span in
     wider (join (differs_up now stmt (assert_reg find stmt q) q.operand.span) (match_up find stmt now qs)) (omega arith)
 
-matched_up : (find : ℕ → Found) (stmt : ℕ) (qs : List Asked) → Up-to (2 * length qs) (matched find stmt qs)
+matched_up : (find : ℕ → Option Reg) (stmt : ℕ) (qs : List Asked) → Up-to (2 * length qs) (matched find stmt qs)
 matched_up find stmt qs = wider (join (operands_up find stmt qs) (match_up find stmt unfixed qs)) (omega arith)
 
 expr_up : (param : ℕ → Bool) (stmt : ℕ) (e : Expr) → Up-to (expr_weight e) (expr_errors param stmt e)
@@ -141,10 +138,10 @@ unfolding compare_errors bytes flat error_field
 compare_up (bad e) stmt o vs v = none_up
 compare_up (size n) stmt o vs v = where_up (leb (2 ^ n) v) _ (up (omega arith))
 
-arity_up : (found : FoundGate) (stmt sp x params args : ℕ) → Up-to 2 (arity_errors found stmt sp x params args)
+arity_up : (found : Option Header) (stmt sp x params args : ℕ) → Up-to 2 (arity_errors found stmt sp x params args)
 unfolding bytes flat error_field
-arity_up Unknown stmt sp x params args = up (omega arith)
-arity_up (Known h) stmt sp x params args =
+arity_up None stmt sp x params args = up (omega arith)
+arity_up (Some h) stmt sp x params args =
     join (unless_up (eqb h.params params) (wrong_parameter_arity stmt h.decl x h.params params) (up (omega arith)))
     (unless_up (eqb h.args args) (wrong_argument_arity stmt h.decl x h.args args) (up (omega arith)))
 
@@ -172,8 +169,8 @@ stmts_up C [] = none_up
 stmts_up C (s ∷ ss) = join (stmt_up C s) (stmts_up C ss)
 
 body_up : (C : Scope) (b : Option (List Stmt)) → Up-to (body_weight b) (body_errors C b)
-body_up C none = none_up
-body_up C (some ss) = stmts_up C ss
+body_up C None = none_up
+body_up C (Some ss) = stmts_up C ss
 
 -- ---- declarations
 
@@ -183,14 +180,14 @@ unfolding repeats
 repeats_up kind h decl seen [] = none_up
 repeats_up kind h decl seen (a ∷ l) = join (go (latest seen a.name)) (repeats_up kind h decl (seen ++ (argument a ∷ [])) l)
   where
-    go : (f : Found) → Up-to 1 (repeated kind decl f a)
-    go Nothing = none_up
-    go (Row r) = h a.span a.name decl r.span
+    go : (f : Option Reg) → Up-to 1 (repeated kind decl f a)
+    go None = none_up
+    go (Some r) = h a.span a.name decl r.span
 
-header_up : (found : FoundGate) (g : Gate) → Up-to (1 + (total named_weight g.params + total named_weight g.args)) (header_errors found g)
+header_up : (found : Option Header) (g : Gate) → Up-to (1 + (total named_weight g.params + total named_weight g.args)) (header_errors found g)
 unfolding bytes flat error_field
-header_up (Known h) g = up (omega arith)
-header_up Unknown g =
+header_up (Some h) g = up (omega arith)
+header_up None g =
     wider
     (join (repeats_up redefined_argument (λ a b c d. up (omega arith)) g.decl [] g.args)
     (repeats_up redefined_parameter (λ a b c d. up (omega arith)) g.decl [] g.params))
@@ -200,9 +197,9 @@ register_up : (rs : List Reg) (decl : ℕ) (o : Operand) → Up-to 2 (register_e
 unfolding register_errors bytes flat error_field
 register_up rs decl o = join (where_up (eqb (size_of o) 0) (zero_size_register o.span decl) (up (omega arith))) (go (latest rs o.name))
   where
-    go : (f : Found) → Up-to 1 (redeclared f o decl)
-    go Nothing = none_up
-    go (Row r) = up (omega arith)
+    go : (f : Option Reg) → Up-to 1 (redeclared f o decl)
+    go None = none_up
+    go (Some r) = up (omega arith)
 
 decl_up : (gs : List Gate) (ds : List Decl) → Up-to (total decl_weight ds) (decl_errors gs ds)
 unfolding decl_errors

@@ -1,11 +1,9 @@
 -- Which gate of a program calls which: the calls that the rules list, as tests on statements.
-use Rattle.std.specs.Prelude.{◌≡◌, refl, ◌⊎◌, Bool, true, false, ◌&&◌, ◌||◌, ℕ, ◌<◌, T, eqb, length}
+use Rattle.std.specs.Prelude.{◌≡◌, refl, ◌⊎◌, Bool, true, false, ◌&&◌, ◌||◌, ℕ, ◌<◌, T, eqb, length, Option, Some, None}
 use Rattle.std.proofs.Common.{sym, ap, ap₂, ◌∙◌, subst, inl, inr, ⊎_elim, arith, eqb→eq}
 use Rattle.std.proofs.Math.Bool.{or-false, or_assoc, and-false, and-or_distrib_left}
 use mathlib.Core.List.{List, [], ◌∷◌, ◌++◌}
-use Rattle.std.proofs.Math.Option.{Option, none, some}
 use Rattle.std.proofs.Math.Dec.{eqb_refl}
-use Rattle.rules.specs.declared.FoundGate.TheVariants.{Known, Unknown}
 use Rattle.rules.specs.Basics.{pick}
 use Rattle.rules.specs.Syntax.{Stmt, u, cx, measure, reset, barrier, call, if, missing, Gate, Decl, include, reg, gate, top, Program}
 use Rattle.rules.specs.Checking.{gate_at, number_of, is_gate, header_of, header, entries, gates_of, decl_errors}
@@ -19,7 +17,7 @@ numbered_is : (gs : List Gate) (x w : ℕ) → numbered (header gs x) w ≡ (is_
 unfolding header
 numbered_is gs x w = go (is_gate gs x)
   where
-    go : (b : Bool) → numbered (pick b (Known (header_of gs (number_of gs x))) Unknown) w ≡ (b && eqb (number_of gs x) w)
+    go : (b : Bool) → numbered (pick b (Some (header_of gs (number_of gs x))) None) w ≡ (b && eqb (number_of gs x) w)
     go true = refl
     go false = refl
 
@@ -42,8 +40,8 @@ called_in_lt gs [] w t = absurd t
 called_in_lt gs (s ∷ ss) w t = ⊎_elim (called_lt gs s w) (called_in_lt gs ss w) (or_T (called (header gs) s w) (called_in (header gs) ss w) t)
 
 called_by_lt : (gs : List Gate) (b : Option (List Stmt)) (w : ℕ) → T (called_by (header gs) b w) → w < length gs
-called_by_lt gs none w t = absurd t
-called_by_lt gs (some ss) w t = called_in_lt gs ss w t
+called_by_lt gs None w t = absurd t
+called_by_lt gs (Some ss) w t = called_in_lt gs ss w t
 
 edge_append : (cs ds : List Call) (g h : ℕ) → edge (cs ++ ds) g h ≡ (edge cs g h || edge ds g h)
 unfolding edge
@@ -75,8 +73,8 @@ edge_stmts gs v (s ∷ ss) g h =
 
 edge_body : (gs : List Gate) (v : ℕ) (b : Option (List Stmt)) (g h : ℕ) → edge (body_calls gs v b) g h ≡ (eqb v g && called_by (header gs) b h)
 unfolding edge
-edge_body gs v none g h = sym (and-false (eqb v g))
-edge_body gs v (some ss) g h = edge_stmts gs v ss g h
+edge_body gs v None g h = sym (and-false (eqb v g))
+edge_body gs v (Some ss) g h = edge_stmts gs v ss g h
 
 -- d stands for g and its body calls h
 abbrev pub Calls : List Gate → List Decl → Gate → ℕ → ℕ → Type 0

@@ -1,8 +1,6 @@
 -- How many entries a run writes, worked out without running it: `t c` is the number of entries of one run of gate c.
-use Rattle.std.specs.Prelude.{◌≡◌, List, [], ◌∷◌, map, ℕ, zero, suc, ◌+◌, ◌*◌, ◌<◌, min, length, get_or, set}
-use Rattle.std.proofs.Math.Option.{Option, none, some}
-use Rattle.rules.specs.declared.FoundGate.{FoundGate}
-use Rattle.rules.specs.declared.FoundGate.TheVariants.{Known, Unknown}
+use Rattle.rules.specs.declared.Header.{Header}
+use Rattle.std.specs.Prelude.{◌≡◌, List, [], ◌∷◌, map, ℕ, zero, suc, ◌+◌, ◌*◌, ◌<◌, min, length, get_or, set, Option, Some, None}
 use Rattle.rules.specs.Syntax.{Stmt, u, cx, measure, reset, barrier, call, if, missing, Gate, Program}
 use Rattle.rules.specs.Checking.{gate_at, gates_of, Scope, top_scope, body_scope, quantum, classic}
 use Rattle.rules.specs.Run.{sizes, common, tops}
@@ -11,8 +9,8 @@ use Rattle.rules.specs.Run.{sizes, common, tops}
 
 -- 01: "Any other statement runs once if all operands have size 1, else for j from 0 below the common size"
 abbrev pub times : Option (List ℕ) → ℕ
-times none = 0
-times (some ns) = common ns
+times None = 0
+times (Some ns) = common ns
 
 unfoldable pub sum : List ℕ → ℕ
 sum [] = 0
@@ -20,13 +18,13 @@ sum (n ∷ ns) = n + sum ns
 
 -- 01: "36 one barrier qubit each, .. then 37 empty"
 abbrev pub barrier_count : Option (List ℕ) → ℕ
-barrier_count none = 0
-barrier_count (some ns) = sum ns + 1
+barrier_count None = 0
+barrier_count (Some ns) = sum ns + 1
 
 -- one call of what is known of a name
-abbrev pub call_count : FoundGate → (t : ℕ → ℕ) → ℕ
-call_count Unknown t = 0
-call_count (Known h) t = t h.number
+abbrev pub call_count : Option Header → (t : ℕ → ℕ) → ℕ
+call_count None t = 0
+call_count (Some h) t = t h.number
 
 -- 01: "39 IF .., then the governed entries, then 40 empty"; "A call to a gate with a body runs the body once for each j."
 unfoldable pub stmt_count : Scope → (t : ℕ → ℕ) → Stmt → ℕ
@@ -45,8 +43,8 @@ stmts_count C t (s ∷ ss) = stmt_count C t s + stmts_count C t ss
 
 -- 01: "38 opaque call: name, qubits"
 abbrev pub body_count : List Gate → (t : ℕ → ℕ) → Gate → Option (List Stmt) → ℕ
-body_count gs t g none = 1
-body_count gs t g (some ss) = stmts_count (body_scope gs g) t ss
+body_count gs t g None = 1
+body_count gs t g (Some ss) = stmts_count (body_scope gs g) t ss
 
 -- one run of gate g
 unfoldable pub gate_count : List Gate → (t : ℕ → ℕ) → (g : ℕ) → ℕ

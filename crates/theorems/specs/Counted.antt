@@ -1,16 +1,14 @@
 -- The count is the length of the run.
-use Rattle.std.specs.Prelude.{◌≡◌, Bool, ◌&&◌, T, ltb, set, drop}
+use Rattle.rules.specs.declared.Header.{Header}
+use Rattle.std.specs.Prelude.{◌≡◌, Bool, ◌&&◌, T, ltb, set, drop, Option, Some, None}
 use Rattle.std.proofs.Math.Path.{refl, sym, ap, ap₂, subst}
 use Rattle.std.proofs.Common.{◌∙◌, zero-mul, mul-one, not-suc-le-zero, ltb→lt, lt→ltb, length-set, drop_of_length-le, drop-cons, get_or-set_same, get_or-set_other}
-use Rattle.std.proofs.Math.Option.{Option, none, some}
 use mathlib.Core.List.{List, [], ◌∷◌, ◌++◌, map}
 use Prim.Native.Nat.{ℕ, zero, suc, ◌+◌, ◌*◌, ◌≤◌, ◌<◌, min}
 use Rattle.std.proofs.Math.Decide.{dec_le, dec_lt}
 use native.Mathlib.Omega.{arith}
 use Rattle.std.proofs.Math.Dec.{eqb_refl}
 use Rattle.std.proofs.Math.ListN.{length, length-append}
-use Rattle.rules.specs.declared.FoundGate.{FoundGate}
-use Rattle.rules.specs.declared.FoundGate.TheVariants.{Known, Unknown}
 use Rattle.rules.specs.Syntax.{Stmt, u, cx, measure, reset, barrier, call, if, missing, Gate, Program}
 use Rattle.rules.specs.Checking.{gate_at, gates_of, Asked, quantum, classic, header, Scope, top_scope, body_scope, assert_reg}
 use Rattle.rules.specs.Calls.{errors}
@@ -55,7 +53,7 @@ unfolding qubits_from
 qubits_length zero q = refl
 qubits_length (suc k) q = ap suc (qubits_length k (suc q))
 
-barrier_length : (P : Place) (qs : List Asked) (ns : List ℕ) → sizes P.scope qs ≡ some ns → length (barrier_qubits P ns qs) ≡ sum ns
+barrier_length : (P : Place) (qs : List Asked) (ns : List ℕ) → sizes P.scope qs ≡ Some ns → length (barrier_qubits P ns qs) ≡ sum ns
 unfolding barrier_qubits sum
 barrier_length P [] ns e = rw (sizes_nil P.scope ns e) refl
 barrier_length P (q ∷ qs) ns e =
@@ -102,8 +100,8 @@ gate_length gs (suc d) g qs es e = go (gate_at gs g).body (gate_length gs d) e
   where
     go : (b : Option (List Stmt)) → ((c : ℕ) (rs : List ℕ) (fs : List Entry) → run_gate gs d c rs ≡ done fs → length fs ≡ counts gs d c)
         → run_body gs (run_gate gs d) (gate_at gs g) b qs ≡ done es → length es ≡ body_count gs (counts gs d) (gate_at gs g) b
-    go none ih e = done_length (opaque_e (gate_at gs g).name qs ∷ []) es e
-    go (some ss) ih e = runs_length (run_gate gs d) (counts gs d) ih (body_place gs (gate_at gs g) qs) ss es e
+    go None ih e = done_length (opaque_e (gate_at gs g).name qs ∷ []) es e
+    go (Some ss) ih e = runs_length (run_gate gs d) (counts gs d) ih (body_place gs (gate_at gs g) qs) ss es e
 
 pub program_length : (p : Program) (d : ℕ) (es : List Entry) → run_at d p ≡ done es → length es ≡ program_count p (counts (gates_of p) d)
 unfolding run_at program_count top_place
@@ -125,10 +123,10 @@ module _ (cap : ℕ) (t v : ℕ → ℕ) where
   abbrev Agrees : (ℕ → Bool) → Type 0
   Agrees b = (c : ℕ) → T (b c) → min cap (t c) ≡ min cap (v c)
 
-  call_capped : (found : FoundGate) (params args : ℕ) → T (callable found params args) → Agrees (numbered found)
+  call_capped : (found : Option Header) (params args : ℕ) → T (callable found params args) → Agrees (numbered found)
       → min cap (call_count found t) ≡ min cap (call_count found v)
-  call_capped Unknown params args k h = absurd k
-  call_capped (Known g) params args k h = h g.number (eqb_refl g.number)
+  call_capped None params args k h = absurd k
+  call_capped (Some g) params args k h = h g.number (eqb_refl g.number)
 
   stmt_capped : (C : Scope) (s : Stmt) → T (passes C s) → Agrees (called C.gates s) → min cap (stmt_count C t s) ≡ min cap (stmt_count C v s)
   unfolding stmt_count passes called
@@ -159,8 +157,8 @@ module _ (cap : ℕ) (t v : ℕ → ℕ) where
   body_capped : (gs : List Gate) (g : Gate) (b : Option (List Stmt)) → T (pass_body gs g b) → Agrees (called_by (header gs) b)
       → min cap (body_count gs t g b) ≡ min cap (body_count gs v g b)
   unfolding body_scope
-  body_capped gs g none k h = refl
-  body_capped gs g (some ss) k h = stmts_capped (body_scope gs g) ss k h
+  body_capped gs g None k h = refl
+  body_capped gs g (Some ss) k h = stmts_capped (body_scope gs g) ss k h
 
 module _ (p : Program) (S : Sound p) (cap : ℕ) where
   gate_capped : (t v : ℕ → ℕ) (g : ℕ) → g < length (gates_of p) → ((c : ℕ) → T (calls_in p g c) → min cap (t c) ≡ min cap (v c))

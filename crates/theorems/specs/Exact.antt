@@ -1,15 +1,13 @@
 -- No error is listed for nothing: where check lists one at a statement the run is stuck, and recursion nests past any depth.
-use Rattle.std.specs.Prelude.{◌≡◌, refl, ◌↔◌, Bool, true, false, ◌&&◌, eqb, length}
+use Rattle.rules.specs.declared.Header.{Header}
+use Rattle.std.specs.Prelude.{◌≡◌, refl, ◌↔◌, Bool, true, false, ◌&&◌, eqb, length, Option, Some, None}
 use Rattle.std.proofs.Common.{sym, ◌∙◌, arith}
 use Rattle.std.proofs.Math.Path.{subst}
 use Rattle.std.proofs.Math.Logic.{⊎_elim}
-use Rattle.std.proofs.Math.Option.{Option, none, some}
 use mathlib.Core.List.{List, [], ◌∷◌, map}
 use Prim.Native.Nat.{ℕ, zero, suc, ◌+◌, ◌<◌}
 use Rattle.std.proofs.Math.Dec.{T, eqb→eq}
-use Rattle.rules.specs.declared.FoundGate.{FoundGate}
 use Rattle.rules.specs.declared.Reg.{Reg}
-use Rattle.rules.specs.declared.Found.TheVariants.{Row}
 use Rattle.rules.specs.Basics.{pick}
 use Rattle.rules.specs.Syntax.{Stmt, u, cx, measure, reset, barrier, call, if, missing, Gate, Program}
 use Rattle.rules.specs.Checking.{gate_at, header, gates_of, argument, registers, top_scope, body_scope, Scope, Asked, quantum, classic, assert_reg, stmt_errors, stmts_errors, top_errors, body_errors}
@@ -80,8 +78,8 @@ body_stuck gs zero g qs h = refl
 body_stuck gs (suc d) g qs h = go (gate_at gs g).body h
   where
     go : (b : Option (List Stmt)) → (body_errors (body_scope gs (gate_at gs g)) b ≡ [] → ⊥) → run_body gs (run_gate gs d) (gate_at gs g) b qs ≡ stuck
-    go none h = absurd (h refl)
-    go (some ss) h = errors_stuck (run_gate gs d) (body_place gs (gate_at gs g) qs) ss h
+    go None h = absurd (h refl)
+    go (Some ss) h = errors_stuck (run_gate gs d) (body_place gs (gate_at gs g) qs) ss h
 
 pub top_stuck : (p : Program) (d : ℕ) → (top_errors (top_scope (gates_of p) p.decls) p.decls ≡ [] → ⊥) → run_at d p ≡ stuck
 unfolding run_at top_place
@@ -93,10 +91,10 @@ top_stuck p d h =
 
 -- no row that a name means is empty
 abbrev Solid : Scope → Type 0
-Solid C = (x : ℕ) (r : Reg) → C.regs x ≡ Row r → 0 < r.size
+Solid C = (x : ℕ) (r : Reg) → C.regs x ≡ Some r → 0 < r.size
 
 -- so a statement runs at least once
-common_some : (C : Scope) → Solid C → (qs : List Asked) (ns : List ℕ) → sizes C qs ≡ some ns → 0 < common ns
+common_some : (C : Scope) → Solid C → (qs : List Asked) (ns : List ℕ) → sizes C qs ≡ Some ns → 0 < common ns
 unfolding common
 common_some C solid [] ns e = rw (sizes_nil C ns e) (omega arith)
 common_some C solid (q ∷ qs) ns e =
@@ -132,7 +130,7 @@ module _ (f : ℕ → List ℕ → Out) (P : Place) (solid : Solid P.scope) (c :
       let s = spread_done P (map quantum os) (f g) es (guard_done (all_known P.scope.params xs) _ es k.ran).1 in
       let n = common_some P.scope solid (map quantum os) s.sized s.have in
       let r = turns_first (common s.sized) (λ j. f g (lanes P j s.sized (map quantum os))) es n s.ran in
-      let q : g ≡ c = eqb→eq g c (subst (λ (h : FoundGate). T (numbered h c)) k.known t) in
+      let q : g ≡ c = eqb→eq g c (subst (λ (h : Option Header). T (numbered h c)) k.known t) in
       let b : List ℕ = lanes P 0 s.sized (map quantum os) in
       (b, r.0, subst (λ (g : ℕ). f g b ≡ done r.0) q r.1)
   run_reaches (if sp o vs v s) es e t = let k = if_done P o v (run f P s) es e in run_reaches s k.inner k.ran t
@@ -175,8 +173,8 @@ module _ (p : Program) (S : Sound p) where
 
       go : (b : Option (List Stmt)) → run_body gs (run_gate gs d) (gate_at gs g) b qs ≡ done es → T (called_by (header gs) b c)
           → ((rs : List ℕ) (fs : List Entry) → run_gate gs d c rs ≡ done fs → ⊥) → ⊥
-      go none e t h = t
-      go (some ss) e t h =
+      go None e t h = t
+      go (Some ss) e t h =
           let r = runs_reach (run_gate gs d) (body_place gs (gate_at gs g) qs) (solid_body gs (gate_at gs g)) c ss es e t in
           h r.0 r.1 r.2
 

@@ -1,12 +1,11 @@
 -- The first entries of a program's gates, and their numbers.
-use Rattle.std.specs.Prelude.{◌≡◌, refl, ◌⊎◌, Bool, true, false, ℕ, ◌+◌, ◌≤◌, ◌<◌, T, eqb, length}
+use Rattle.std.specs.Prelude.{◌≡◌, refl, ◌⊎◌, Bool, true, false, ℕ, ◌+◌, ◌≤◌, ◌<◌, T, eqb, length, Some, None}
 use Rattle.std.proofs.Common.{sym, ap, ◌∙◌, subst, inl, inr, zero-le, le_refl, not-suc-le-zero, arith, eqb→eq, ltb→lt, lt→ltb, length-append}
 use mathlib.Core.List.{List, [], ◌∷◌, ◌++◌, cons≢nil}
 use Rattle.std.proofs.Math.Decide.{dec_lt}
 use Rattle.std.proofs.Math.Dec.{eqb_refl}
 use Rattle.std.proofs.Math.ListN.{get_or-append}
 use Rattle.std.proofs.lemmas.List.{get_or_at}
-use Rattle.rules.specs.declared.FoundGate.TheVariants.{Known, Unknown}
 use Rattle.rules.specs.Basics.{pick, first}
 use Rattle.rules.specs.Syntax.{Gate, Decl, include, reg, gate, top, Program}
 use Rattle.rules.specs.Checking.{no_gate, gate_at, number_of, is_gate, header_of, header, entered, entries, gates_of, header_errors, decl_errors}
@@ -140,7 +139,7 @@ fresh_header : (gs : List Gate) (g : Gate) → header_errors (header gs g.name) 
 unfolding header entered
 fresh_header gs g = go (is_gate gs g.name)
   where
-    go : (b : Bool) → header_errors (pick b (Known (header_of gs (number_of gs g.name))) Unknown) g ≡ [] → pick b gs (gs ++ (g ∷ [])) ≡ gs ++ (g ∷ [])
+    go : (b : Bool) → header_errors (pick b (Some (header_of gs (number_of gs g.name))) None) g ≡ [] → pick b gs (gs ++ (g ∷ [])) ≡ gs ++ (g ∷ [])
     go true q = absurd (cons≢nil q)
     go false q = refl
 

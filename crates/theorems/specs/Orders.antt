@@ -49,7 +49,7 @@ left_out n l h =
       | yes a ↦ (first n p, a, λ t. T_not (has l (first n p)) (first_true n p a) t)
       | no a ↦
           let has_all : (g : ℕ) → g < n → T (has l g) = λ g b.
-          test (has l g) (λ t. t) (λ t. let q = first_hit n p g (not_T (has l g) t) in absurd (a (omega arith))) in
+          test (has l g) (λ t. t) (λ t. let q = first_hit n p g (not_T (has l g) t) in absurd (omega arith)) in
           absurd (omega (arith, full n l has_all))
     ]
 

@@ -1,17 +1,14 @@
 -- A statement that passes is not stuck, and so neither is a program without errors.
-use Rattle.std.specs.Prelude.{◌≡◌, ◌⊎◌, true, false, ◌&&◌, ◌||◌, ltb, leb, length, get_or}
+use Rattle.std.specs.Prelude.{◌≡◌, ◌⊎◌, true, false, ◌&&◌, ◌||◌, ltb, leb, length, get_or, Option, Some, None}
 use Rattle.std.proofs.Math.Path.{refl, sym, subst}
 use Rattle.std.proofs.Common.{ap, ◌∙◌, inl, inr, eqb→eq, leb→le}
 use Rattle.std.proofs.Math.Bool.{Bool}
-use Rattle.std.proofs.Math.Option.{Option, none, some}
 use mathlib.Core.List.{List, [], ◌∷◌, ◌++◌, map}
 use Prim.Native.Nat.{ℕ, zero, suc, ◌+◌, ◌^◌, ◌≤◌, ◌<◌}
 use native.Mathlib.Omega.{arith}
 use Rattle.std.proofs.Math.Dec.{T, eqb, eqb_refl}
 use Rattle.rules.specs.declared.Operand.{Operand}
 use Rattle.rules.specs.declared.Header.{Header}
-use Rattle.rules.specs.declared.FoundGate.{FoundGate}
-use Rattle.rules.specs.declared.FoundGate.TheVariants.{Known, Unknown}
 use Rattle.rules.specs.Basics.{pick}
 use Rattle.rules.specs.Syntax.{Stmt, u, cx, measure, reset, barrier, call, if, missing, Gate, Program}
 use Rattle.rules.specs.Checking.{gate_at, number_of, is_gate, header_of, header, gates_of, top_scope, body_scope, Asked, quantum, classic, Sized, size, bad, assert_reg}
@@ -45,14 +42,14 @@ Under tot (b ∷ bs) [] = ⊥
 Under tot (b ∷ bs) (q ∷ qs) = (b < tot q.classical) × Under tot bs qs
 
 -- what is known of a name counts the arguments of its gate
-abbrev Arity : List Gate → (ℕ → FoundGate) → Type 0
-Arity gs gates = (x : ℕ) (h : Header) → gates x ≡ Known h → h.args ≡ length (gate_at gs h.number).args
+abbrev Arity : List Gate → (ℕ → Option Header) → Type 0
+Arity gs gates = (x : ℕ) (h : Header) → gates x ≡ Some h → h.args ≡ length (gate_at gs h.number).args
 
 header_arity : (gs : List Gate) → Arity gs (header gs)
 unfolding header
 header_arity gs x h = go (is_gate gs x)
   where
-    go : (b : Bool) → pick b (Known (header_of gs (number_of gs x))) Unknown ≡ Known h → h.args ≡ length (gate_at gs h.number).args
+    go : (b : Bool) → pick b (Some (header_of gs (number_of gs x))) None ≡ Some h → h.args ≡ length (gate_at gs h.number).args
     go true e = let q : header_of gs (number_of gs x) ≡ h = cc in subst (λ (k : Header). k.args ≡ length (gate_at gs k.number).args) q refl
     go false e = let k : ◌≡◌ {A = ℕ} 0 1 = cc in absurd (omega arith)
 
@@ -66,11 +63,11 @@ module _ (tot : Bool → ℕ) where
   fine_guard true o t f = f
   fine_guard false o t f = absurd t
 
-  fine_calling : (found : FoundGate) (params args : ℕ) (f : ℕ → Out) → T (callable found params args)
-      → ((h : Header) → found ≡ Known h → h.args ≡ args → Fine tot (f h.number)) → Fine tot (calling found params args f)
-  fine_calling Unknown params args f t r = absurd t
-  fine_calling (Known h) params args f t r =
-      fine_guard (callable (Known h) params args) (f h.number) t
+  fine_calling : (found : Option Header) (params args : ℕ) (f : ℕ → Out) → T (callable found params args)
+      → ((h : Header) → found ≡ Some h → h.args ≡ args → Fine tot (f h.number)) → Fine tot (calling found params args f)
+  fine_calling None params args f t r = absurd t
+  fine_calling (Some h) params args f t r =
+      fine_guard (callable (Some h) params args) (f h.number) t
       (r h refl (eqb→eq h.args args (and_T (eqb h.params params) (eqb h.args args) t).1))
 
   fine_turns : (k j : ℕ) (f : ℕ → Out) → ((i : ℕ) → i < j + k → Fine tot (f i)) → Fine tot (turns k j f)
@@ -112,7 +109,7 @@ module _ (tot : Bool → ℕ) where
             absurd (subst T (ap (λ (v : ℕ). eqb v 1) (sym c) ∙ x) tt)
         go false x z (inr y) = let a = eqb→eq n k y in omega arith
 
-    lanes_under : (k j : ℕ) (qs : List Asked) (ns : List ℕ) → sizes P.scope qs ≡ some ns → T (paired k ns) → j < k → Under tot (lanes P j ns qs) qs
+    lanes_under : (k j : ℕ) (qs : List Asked) (ns : List ℕ) → sizes P.scope qs ≡ Some ns → T (paired k ns) → j < k → Under tot (lanes P j ns qs) qs
     unfolding lanes paired
     lanes_under k j [] ns e p l = rw (sizes_nil P.scope ns e) tt
     lanes_under k j (q ∷ qs) ns e p l =
@@ -128,12 +125,12 @@ module _ (tot : Bool → ℕ) where
       where
         go : (x : Option (List ℕ)) → sizes P.scope qs ≡ x → T (pairing x)
             → Fine tot (with x (λ ns. guard (paired (common ns) ns) (turns (common ns) 0 (λ j. f (lanes P j ns qs)))))
-        go none e t = absurd t
-        go (some ns) e t =
+        go None e t = absurd t
+        go (Some ns) e t =
             fine_guard (paired (common ns) ns) (turns (common ns) 0 (λ j. f (lanes P j ns qs))) t
             (fine_turns (common ns) 0 (λ j. f (lanes P j ns qs)) (λ j l. h (lanes P j ns qs) (lanes_under (common ns) j qs ns e t (omega arith))))
 
-    fine_barrier : (os : List Operand) (ns : List ℕ) → sizes P.scope (map quantum os) ≡ some ns → Each (Inside tot) (barrier_qubits P ns (map quantum os))
+    fine_barrier : (os : List Operand) (ns : List ℕ) → sizes P.scope (map quantum os) ≡ Some ns → Each (Inside tot) (barrier_qubits P ns (map quantum os))
     unfolding barrier_qubits
     fine_barrier [] ns e = rw (sizes_nil P.scope ns e) tt
     fine_barrier (o ∷ os) ns e =
@@ -176,8 +173,8 @@ module _ (tot : Bool → ℕ) where
         where
           go : (x : Option (List ℕ)) → sizes P.scope (map quantum os) ≡ x → T (is x)
               → Fine tot (with x (λ ns. done (barrier_qubits P ns (map quantum os) ++ (barrier_end_e ∷ []))))
-          go none e t = absurd t
-          go (some ns) e t = each_append (Inside tot) (barrier_qubits P ns (map quantum os)) (barrier_end_e ∷ []) (fine_barrier os ns e) (tt, tt)
+          go None e t = absurd t
+          go (Some ns) e t = each_append (Inside tot) (barrier_qubits P ns (map quantum os)) (barrier_end_e ∷ []) (fine_barrier os ns e) (tt, tt)
       run_fine (call sp ns x es os) t h =
           let k : Bool = all_known P.scope.params es in
           let a = and_T (callable (P.scope.gates x) (length es) (length os)) (pairing (sizes P.scope (map quantum os)) && k) t in
@@ -219,8 +216,8 @@ module _ (p : Program) (S : Sound p) where
       go : (o : Option (List Stmt)) → (gate_at gs g).body ≡ o → T (pass_body gs (gate_at gs g) o)
           → ((c : ℕ) (rs : List ℕ) → T (calls_in p g c) → length rs ≡ length (gate_at gs c).args → Each (λ q. q < tot false) rs → Fine tot (run_gate gs d c rs))
           → Fine tot (run_body gs (run_gate gs d) (gate_at gs g) o qs)
-      go none e t ih = (a, tt)
-      go (some ss) e t ih =
+      go None e t ih = (a, tt)
+      go (Some ss) e t ih =
           runs_fine tot (body_place gs (gate_at gs g) qs) (body_bounded tot gs (gate_at gs g) qs len a) gs (header_arity gs) (run_gate gs d) ss t
           (λ c rs k. ih c rs (body_calls_lem p g c b (subst (λ (o : Option (List Stmt)). T (called_by (header gs) o c)) (sym e) k)))
 

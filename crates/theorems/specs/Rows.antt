@@ -1,15 +1,14 @@
 -- The rows of a scope: which row a name means, and that the bits it names are there.
-use Rattle.std.specs.Prelude.{◌≡◌, refl, Bool, true, false, List, [], ◌∷◌, ◌++◌, map, ℕ, zero, suc, ◌+◌, ◌≤◌, ◌<◌, T, ltb, eqb, length, get_or, take}
+use Rattle.rules.specs.declared.Header.{Header}
+use Rattle.std.specs.Prelude.{◌≡◌, refl, Bool, true, false, List, [], ◌∷◌, ◌++◌, map, ℕ, zero, suc, ◌+◌, ◌≤◌, ◌<◌, T, ltb, eqb, length, get_or, take, Option, Some, None}
 use Rattle.std.proofs.Common.{sym, ap, ◌∙◌, subst, le_refl, le_of_suc-le-suc, not-suc-le-zero, arith, ltb→lt, take-suc}
 use Rattle.std.specs.Bool.{beq}
 use Rattle.std.proofs.lemmas.List.{length-map}
 use Rattle.std.proofs.Math.Seq.{take-length}
 use Rattle.rules.specs.declared.Reg.{Reg}
-use Rattle.rules.specs.declared.FoundGate.{FoundGate}
-use Rattle.rules.specs.declared.Found.{Found}
-use Rattle.rules.specs.declared.Found.TheVariants.{Row, Nothing}
 use Rattle.rules.specs.Basics.{pick}
-use Rattle.rules.specs.Syntax.{Named, Gate, Decl}
+use Rattle.rules.specs.declared.Named.{Named}
+use Rattle.rules.specs.Syntax.{Gate, Decl}
 use Rattle.rules.specs.Errors.{Error}
 use Rattle.rules.specs.Checking.{header, latest, later, argument, registers, is_param, top_scope, body_scope, Asked, size, bad, found_size, assert_reg}
 use Rattle.rules.specs.Run.{no_reg, latest_of, starts_from, bits_of, bit_of, Place, start_of, body_place, top_place}
@@ -25,56 +24,56 @@ each_at P (x ∷ xs) d (suc i) e h = each_at P xs d i e.1 (le_of_suc-le-suc h)
 
 -- ---- the latest row
 
-row_row : (r s : Reg) → Row r ≡ Row s → r ≡ s
+row_row : (r s : Reg) → Some r ≡ Some s → r ≡ s
 row_row r s e = cc
 
-no_row : (s : Reg) → Nothing ≡ Row s → ⊥
+no_row : (s : Reg) → None ≡ Some s → ⊥
 no_row s e = let k : ◌≡◌ {A = ℕ} 0 1 = cc in omega arith
 
-pub latest_each : (P : Reg → Type 0) (rs : List Reg) (x : ℕ) (r : Reg) → Each P rs → latest rs x ≡ Row r → P r
+pub latest_each : (P : Reg → Type 0) (rs : List Reg) (x : ℕ) (r : Reg) → Each P rs → latest rs x ≡ Some r → P r
 unfolding latest
 latest_each P [] x r a e = absurd (no_row r e)
 latest_each P (s ∷ rs) x r a e = go (latest rs x) (eqb s.name x) (latest_each P rs x r a.1) e
   where
-    go : (f : Found) (b : Bool) → (f ≡ Row r → P r) → later f (pick b (Row s) Nothing) ≡ Row r → P r
-    go (Row t) b ih e = ih e
-    go Nothing true ih e = subst P (row_row s r e) a.0
-    go Nothing false ih e = absurd (no_row r e)
+    go : (f : Option Reg) (b : Bool) → (f ≡ Some r → P r) → later f (pick b (Some s) None) ≡ Some r → P r
+    go (Some t) b ih e = ih e
+    go None true ih e = subst P (row_row s r e) a.0
+    go None false ih e = absurd (no_row r e)
 
-latest_snoc : (rs : List Reg) (s : Reg) (x : ℕ) → latest (rs ++ (s ∷ [])) x ≡ pick (eqb s.name x) (Row s) (latest rs x)
+pub latest_snoc : (rs : List Reg) (s : Reg) (x : ℕ) → latest (rs ++ (s ∷ [])) x ≡ pick (eqb s.name x) (Some s) (latest rs x)
 unfolding latest
 latest_snoc [] s x = refl
-latest_snoc (r ∷ rs) s x = ap (λ (f : Found). later f (pick (eqb r.name x) (Row r) Nothing)) (latest_snoc rs s x) ∙ go (eqb s.name x) _
+latest_snoc (r ∷ rs) s x = ap (λ (f : Option Reg). later f (pick (eqb r.name x) (Some r) None)) (latest_snoc rs s x) ∙ go (eqb s.name x) _
   where
-    go : (b : Bool) (f : Found) → later (pick b (Row s) (latest rs x)) f ≡ pick b (Row s) (later (latest rs x) f)
+    go : (b : Bool) (f : Option Reg) → later (pick b (Some s) (latest rs x)) f ≡ pick b (Some s) (later (latest rs x) f)
     go true f = refl
     go false f = refl
 
 -- its number is the one that the run takes
-latest_front : (other k : ℕ) (rs : List Reg) (x : ℕ) (r : Reg) → k ≤ length rs → latest (take k rs) x ≡ Row r
+latest_front : (other k : ℕ) (rs : List Reg) (x : ℕ) (r : Reg) → k ≤ length rs → latest (take k rs) x ≡ Some r
     → (latest_of other k rs x < length rs) × (get_or rs (latest_of other k rs x) no_reg ≡ r)
 unfolding latest_of latest
 latest_front other zero rs x r h e = absurd (no_row r e)
 latest_front other (suc k) rs x r h e = go (eqb (get_or rs k no_reg).name x) (latest_front other k rs x r (omega arith)) (sym (split (omega arith)) ∙ e)
   where
-    split : k < length rs → latest (take (suc k) rs) x ≡ pick (eqb (get_or rs k no_reg).name x) (Row (get_or rs k no_reg)) (latest (take k rs) x)
+    split : k < length rs → latest (take (suc k) rs) x ≡ pick (eqb (get_or rs k no_reg).name x) (Some (get_or rs k no_reg)) (latest (take k rs) x)
     split h = ap (λ (l : List Reg). latest l x) (take-suc rs k no_reg h) ∙ latest_snoc (take k rs) (get_or rs k no_reg) x
 
-    go : (b : Bool) → (latest (take k rs) x ≡ Row r → (latest_of other k rs x < length rs) × (get_or rs (latest_of other k rs x) no_reg ≡ r))
-        → pick b (Row (get_or rs k no_reg)) (latest (take k rs) x) ≡ Row r
+    go : (b : Bool) → (latest (take k rs) x ≡ Some r → (latest_of other k rs x < length rs) × (get_or rs (latest_of other k rs x) no_reg ≡ r))
+        → pick b (Some (get_or rs k no_reg)) (latest (take k rs) x) ≡ Some r
         → (pick b k (latest_of other k rs x) < length rs) × (get_or rs (pick b k (latest_of other k rs x)) no_reg ≡ r)
     go true ih e = (h, row_row (get_or rs k no_reg) r e)
     go false ih e = ih e
 
-latest_number : (other : ℕ) (rs : List Reg) (x : ℕ) (r : Reg) → latest rs x ≡ Row r
+latest_number : (other : ℕ) (rs : List Reg) (x : ℕ) (r : Reg) → latest rs x ≡ Some r
     → (latest_of other (length rs) rs x < length rs) × (get_or rs (latest_of other (length rs) rs x) no_reg ≡ r)
 latest_number other rs x r e = latest_front other (length rs) rs x r (le_refl (length rs)) (ap (λ (l : List Reg). latest l x) (take-length rs) ∙ e)
 
 -- ---- an operand of size n lies in its row
 
-pub record Fitting (find : ℕ → Found) (q : Asked) (n : ℕ) : Type 0 where
+pub record Fitting (find : ℕ → Option Reg) (q : Asked) (n : ℕ) : Type 0 where
   pub row : Reg
-  pub found : find q.operand.name ≡ Row row
+  pub found : find q.operand.name ≡ Some row
   pub kind : row.classical ≡ q.classical
   pub inside : pick q.operand.indexed q.operand.index 0 + n ≤ row.size
   pub some : 0 < row.size → 0 < n
@@ -98,13 +97,13 @@ row_fits true true false j n m d e h q = absurd (bad_size d n q)
 row_fits true false c j n m d e h q = let k = size_size m n q in (tt, omega arith, λ l. omega arith)
 row_fits false b c j n m d e h q = absurd (bad_size e n q)
 
-pub fitting : (find : ℕ → Found) (stmt : ℕ) (q : Asked) (n : ℕ) → assert_reg find stmt q ≡ size n → Fitting find q n
+pub fitting : (find : ℕ → Option Reg) (stmt : ℕ) (q : Asked) (n : ℕ) → assert_reg find stmt q ≡ size n → Fitting find q n
 unfolding assert_reg
 fitting find stmt q n e = go (find q.operand.name) refl e
   where
-    go : (f : Found) → find q.operand.name ≡ f → found_size f stmt q ≡ size n → Fitting find q n
-    go Nothing f e = absurd (bad_size _ n e)
-    go (Row r) f e =
+    go : (f : Option Reg) → find q.operand.name ≡ f → found_size f stmt q ≡ size n → Fitting find q n
+    go None f e = absurd (bad_size _ n e)
+    go (Some r) f e =
         let i : ℕ = q.operand.index in
         let a = row_fits (beq r.classical q.classical) q.operand.indexed (ltb i r.size) i n r.size _ _ (ltb→lt i r.size) e in
         record { row = r; found = f; kind = beq_eq r.classical q.classical a.0; inside = a.1; some = a.2 }
@@ -120,7 +119,7 @@ abbrev pub RowsBounded : (Bool → ℕ) → List Reg → List ℕ → Type 0
 RowsBounded tot rs starts =
     (i : ℕ) → i < length rs → (0 < (get_or rs i no_reg).size) × (get_or starts i 0 + (get_or rs i no_reg).size ≤ tot (get_or rs i no_reg).classical)
 
-bounded : (tot : Bool → ℕ) (gates : ℕ → FoundGate) (params : ℕ → Bool) (rs : List Reg) (starts : List ℕ) → RowsBounded tot rs starts
+bounded : (tot : Bool → ℕ) (gates : ℕ → Option Header) (params : ℕ → Bool) (rs : List Reg) (starts : List ℕ) → RowsBounded tot rs starts
     → Bounded tot (record { scope = record { gates = gates; regs = latest rs; params = params }; bit = bit_of rs starts })
 unfolding start_of bit_of
 bounded tot gates params rs starts R q n e =

@@ -1,12 +1,9 @@
 -- Runs that end: what their parts came to, and that more depth changes nothing.
-use Rattle.std.specs.Prelude.{◌≡◌, refl, Bool, true, false, ℕ, zero, suc, ◌^◌, ◌≤◌, T, ltb, length}
+use Rattle.std.specs.Prelude.{◌≡◌, refl, Bool, true, false, ℕ, zero, suc, ◌^◌, ◌≤◌, T, ltb, length, Option, Some, None}
 use Rattle.std.proofs.Common.{sym, ap, arith}
-use Rattle.std.proofs.Math.Option.{Option, none, some}
 use mathlib.Core.List.{List, [], ◌∷◌, ◌++◌, map}
 use Rattle.rules.specs.declared.Operand.{Operand}
 use Rattle.rules.specs.declared.Header.{Header}
-use Rattle.rules.specs.declared.FoundGate.{FoundGate}
-use Rattle.rules.specs.declared.FoundGate.TheVariants.{Known, Unknown}
 use Rattle.rules.specs.Syntax.{Stmt, u, cx, measure, reset, barrier, call, if, missing, Gate, Program}
 use Rattle.rules.specs.Checking.{gate_at, gates_of, Asked, quantum, classic, assert_reg}
 use Rattle.rules.specs.Run.{Entry, Out, stuck, done, both, guard, with, turns, Place, size_only, sizes, common, paired, lanes, spread, all_known, calling, if_e, if_end_e, start_of, run, runs, body_place, run_body, run_gate, top_place, tops, run_at}
@@ -33,13 +30,13 @@ pub guard_done : (b : Bool) (o : Out) (es : List Entry) → guard b o ≡ done e
 guard_done true o es e = (tt, e)
 guard_done false o es e = absurd (stuck_done es e)
 
-pub with_done : {A : Type 0} (x : Option A) (f : A → Out) (es : List Entry) → with x f ≡ done es → (a : A) × (x ≡ some a) × (f a ≡ done es)
-with_done none f es e = absurd (stuck_done es e)
-with_done (some a) f es e = (a, refl, e)
+pub with_done : {A : Type 0} (x : Option A) (f : A → Out) (es : List Entry) → with x f ≡ done es → (a : A) × (x ≡ Some a) × (f a ≡ done es)
+with_done None f es e = absurd (stuck_done es e)
+with_done (Some a) f es e = (a, refl, e)
 
 pub record Spread (P : Place) (qs : List Asked) (f : List ℕ → Out) (es : List Entry) : Type 0 where
   pub sized : List ℕ
-  pub have : sizes P.scope qs ≡ some sized
+  pub have : sizes P.scope qs ≡ Some sized
   pub pair : T (paired (common sized) sized)
   pub ran : turns (common sized) 0 (λ j. f (lanes P j sized qs)) ≡ done es
 
@@ -50,17 +47,17 @@ spread_done P qs f es e =
     let g = guard_done (paired (common w.0) w.0) _ es w.2 in
     record { sized = w.0; have = w.1; pair = g.0; ran = g.1 }
 
-pub record Called (found : FoundGate) (params args : ℕ) (f : ℕ → Out) (es : List Entry) : Type 0 where
+pub record Called (found : Option Header) (params args : ℕ) (f : ℕ → Out) (es : List Entry) : Type 0 where
   pub header : Header
-  pub known : found ≡ Known header
+  pub known : found ≡ Some header
   pub counts : T (callable found params args)
   pub ran : f header.number ≡ done es
 
-pub calling_done : (found : FoundGate) (params args : ℕ) (f : ℕ → Out) (es : List Entry) → calling found params args f ≡ done es
+pub calling_done : (found : Option Header) (params args : ℕ) (f : ℕ → Out) (es : List Entry) → calling found params args f ≡ done es
     → Called found params args f es
-calling_done Unknown params args f es e = absurd (stuck_done es e)
-calling_done (Known h) params args f es e =
-    let g = guard_done (callable (Known h) params args) (f h.number) es e in
+calling_done None params args f es e = absurd (stuck_done es e)
+calling_done (Some h) params args f es e =
+    let g = guard_done (callable (Some h) params args) (f h.number) es e in
     record { header = h; known = refl; counts = g.0; ran = g.1 }
 
 -- IF: the governed statement's run in its place
@@ -71,7 +68,7 @@ if_run P o v r =
 
 pub record Governs (P : Place) (o : Operand) (v : ℕ) (r : Out) (es : List Entry) : Type 0 where
   pub width : ℕ
-  pub have : size_only (assert_reg P.scope.regs 0 (classic o)) ≡ some width
+  pub have : size_only (assert_reg P.scope.regs 0 (classic o)) ≡ Some width
   pub fit : T (ltb v (2 ^ width))
   pub inner : List Entry
   pub ran : r ≡ done inner
@@ -110,8 +107,8 @@ follows_guard true f = f
 follows_guard false f = λ es e. e
 
 follows_with : {A : Type 0} (x : Option A) {f g : A → Out} → ((a : A) → Follows (f a) (g a)) → Follows (with x f) (with x g)
-follows_with none h = λ es e. e
-follows_with (some a) h = h a
+follows_with None h = λ es e. e
+follows_with (Some a) h = h a
 
 follows_turns : (k j : ℕ) {f g : ℕ → Out} → ((i : ℕ) → Follows (f i) (g i)) → Follows (turns k j f) (turns k j g)
 unfolding turns
@@ -123,10 +120,10 @@ unfolding spread
 follows_spread P qs h =
     follows_with (sizes P.scope qs) (λ ns. follows_guard (paired (common ns) ns) (follows_turns (common ns) 0 (λ j. h (lanes P j ns qs))))
 
-follows_calling : (found : FoundGate) (params args : ℕ) {f g : ℕ → Out} → ((c : ℕ) → Follows (f c) (g c))
+follows_calling : (found : Option Header) (params args : ℕ) {f g : ℕ → Out} → ((c : ℕ) → Follows (f c) (g c))
     → Follows (calling found params args f) (calling found params args g)
-follows_calling Unknown params args h = λ es e. e
-follows_calling (Known k) params args h = follows_guard (callable (Known k) params args) (h k.number)
+follows_calling None params args h = λ es e. e
+follows_calling (Some k) params args h = follows_guard (callable (Some k) params args) (h k.number)
 
 follows_if : (P : Place) (o : Operand) (v : ℕ) {r t : Out} → Follows r t → Follows (if_run P o v r) (if_run P o v t)
 follows_if P o v {r} {t} h =
@@ -156,8 +153,8 @@ module _ {f h : ℕ → List ℕ → Out} (more : (g : ℕ) (qs : List ℕ) → 
   follows_runs P (s ∷ ss) = follows_both (follows_run P s) (follows_runs P ss)
 
   follows_body : (gs : List Gate) (g : Gate) (b : Option (List Stmt)) (qs : List ℕ) → Follows (run_body gs f g b qs) (run_body gs h g b qs)
-  follows_body gs g none qs = λ es e. e
-  follows_body gs g (some ss) qs = follows_runs (body_place gs g qs) ss
+  follows_body gs g None qs = λ es e. e
+  follows_body gs g (Some ss) qs = follows_runs (body_place gs g qs) ss
 
 follows_deeper : (gs : List Gate) (d k g : ℕ) (qs : List ℕ) → d ≤ k → Follows (run_gate gs d g qs) (run_gate gs k g qs)
 unfolding run_gate

@@ -1,14 +1,15 @@
 -- How much an image can hold: what it spells has a weight, and the bytes that spell it are at least as many. A weight counts the errors that there
 -- can be, or more (page Bounds).
-use Rattle.std.specs.Prelude.{◌≡◌, refl, Bool, true, false, ◌||◌, List, [], ◌∷◌, ℕ, zero, suc, ◌+◌, ◌-◌, ◌≤◌, T, leb, ltb, eqb, length, get_or, drop}
+use Rattle.std.specs.Prelude.{◌≡◌, refl, Bool, true, false, ◌||◌, List, [], ◌∷◌, ℕ, zero, suc, ◌+◌, ◌-◌, ◌≤◌, T, leb, ltb, eqb, length, get_or, drop, Option, Some, None, Ok, Err}
 use Rattle.std.proofs.Common.{sym, ap, subst, arith, eqb→eq, leb→le, length-take}
-use Rattle.std.proofs.Math.Option.{Option, none, some}
 use Rattle.rules.specs.declared.Operand.{Operand}
 use Rattle.rules.specs.declared.Counts.{Counts}
-use Rattle.rules.specs.declared.Num.TheVariants as num
+use Rattle.rules.specs.declared.Fault.{Fault}
+use Rattle.rules.specs.declared.Fault.TheVariants.{TooLong, Cut, BadTag, BadItem, BadName, TooMany}
 use Rattle.rules.specs.Basics.{pick}
-use Rattle.rules.specs.Syntax.{Expr, pi, real, int, var, two, one, Named, Stmt, u, cx, measure, reset, barrier, call, if, missing, Decl, include, reg, gate, top, Program, Field, name_f, include_f, reg_f, gate_f, end_f, stmt_f, if_f}
-use Rattle.rules.specs.Items.{Got, no, got, Parser, bind, times, unless, must, Nums, a, an, got_num, as_num, got_opd, as_opd, le2, le4, le8, fit, byte, word2, word4, word8, span, name, flag, count, indexed, operand, named, opcode, leaf, node, expr}
+use Rattle.rules.specs.declared.Named.{Named}
+use Rattle.rules.specs.Syntax.{Expr, pi, real, int, var, two, one, Stmt, u, cx, measure, reset, barrier, call, if, missing, Decl, include, reg, gate, top, Program, Field, name_f, include_f, reg_f, gate_f, end_f, stmt_f, if_f}
+use Rattle.rules.specs.Items.{Got, Parser, bind, ◌>>=◌, times, unless, must, le2, le4, le8, fit, byte, word2, word4, word8, span, name, flag, count, indexed, operand, named, opcode, leaf, node, expr}
 use Rattle.rules.specs.Reading.{Fields, refused, fields, include_field, reg_field, gate_lists, gate_field, u_field, pair_field, reset_field, barrier_field, call_lists, call_field, if_field, items, name_field, fresh, payload, whole, placed, within, field, more, either, from, scan, len_at, load_at, start}
 use Rattle.rules.specs.Grouping.{stmt, stmts, begin, body_of, open_after, decls, group, program, grouped, read}
 use Rattle.theorems.specs.Search.{pick_same}
@@ -44,8 +45,8 @@ stmt_weight (if sp o vs v s) = 2 + stmt_weight s
 stmt_weight missing = 0
 
 abbrev pub body_weight : Option (List Stmt) → ℕ
-body_weight none = 0
-body_weight (some ss) = total stmt_weight ss
+body_weight None = 0
+body_weight (Some ss) = total stmt_weight ss
 
 abbrev pub decl_weight : Decl → ℕ
 decl_weight (include sp x) = 0
@@ -65,8 +66,8 @@ field_weight (if_f sp o vs v) = 2
 -- ---- readings: what is read from a place weighs no more than the bytes up to the next
 
 abbrev Covered : {A : Type 0} → (A → ℕ) → ℕ → Got A → Type 0
-Covered w at (no k) = Unit {0}
-Covered w at (got x next) = at + w x ≤ next
+Covered w at (Err k) = Unit {0}
+Covered w at (Ok r) = at + w r.0 ≤ r.1
 
 -- a data type, so that the weight, the place and the reading are found from a proof
 data Takes {A : Type 0} (w : A → ℕ) (at : ℕ) (g : Got A) : Type 0 where
@@ -75,20 +76,12 @@ data Takes {A : Type 0} (w : A → ℕ) (at : ℕ) (g : Got A) : Type 0 where
 -- one after another: what is read first ends at n
 then : {A B : Type 0} {v : A → ℕ} {w : B → ℕ} {at from : ℕ} {g : Got A} (f : A → ℕ → Got B) → Takes v from g
     → ((x : A) (n : ℕ) → from + v x ≤ n → Takes w at (f x n)) → Takes w at (bind g f)
-then {g = no k} f t h = takes tt
-then {g = got x n} f (takes q) h = h x n q
+then {g = Err k} f t h = takes tt
+then {g = Ok r} f (takes q) h = h r.0 r.1 q
 
-unless_takes : {A : Type 0} {w : A → ℕ} {at : ℕ} (ok : Bool) (k : ℕ) (x : A) (s : List ℕ) (n : ℕ) → at + w x ≤ n → Takes w at (unless ok k x s n)
+unless_takes : {A : Type 0} {w : A → ℕ} {at : ℕ} (ok : Bool) (k : Fault) (x : A) (s : List ℕ) (n : ℕ) → at + w x ≤ n → Takes w at (unless ok k x s n)
 unless_takes true k x s n h = takes h
 unless_takes false k x s n h = takes tt
-
-as_num_takes : {w : ℕ → ℕ} {at : ℕ} {g : Got ℕ} → Takes w at g → Takes w at (got_num (as_num g))
-as_num_takes {g = no k} t = takes tt
-as_num_takes {g = got x n} (takes h) = takes h
-
-as_opd_takes : {w : Operand → ℕ} {at : ℕ} {g : Got Operand} → Takes w at g → Takes w at (got_opd (as_opd g))
-as_opd_takes {g = no k} t = takes tt
-as_opd_takes {g = got x n} (takes h) = takes h
 
 either_takes : {A : Type 0} {w : A → ℕ} {at : ℕ} (b : Bool) (p q : Parser A) (s : List ℕ) (i : ℕ) → Takes w at (p s i) → Takes w at (q s i)
     → Takes w at (pick b p q s i)
@@ -97,8 +90,8 @@ either_takes false p q s i x y = y
 
 -- and so from an earlier place
 earlier : {A : Type 0} {w : A → ℕ} {at from : ℕ} {g : Got A} → at ≤ from → Takes w from g → Takes w at g
-earlier {g = no k} l t = takes tt
-earlier {g = got x n} l (takes h) = takes (omega arith)
+earlier {g = Err k} l t = takes tt
+earlier {g = Ok r} l (takes h) = takes (omega arith)
 
 -- wherever it starts
 abbrev Weighs : {A : Type 0} → (A → ℕ) → Parser A → Type 0
@@ -114,57 +107,56 @@ times_weighs (suc k) h s at = then _ (h s at) (λ x i a. then _ (times_weighs k 
 
 -- ---- items
 
-fit_weighs : (n : ℕ) (f : List ℕ → ℕ → ℕ) → Weighs (λ x. n) (a (fit n f))
+fit_weighs : (n : ℕ) (f : List ℕ → ℕ → ℕ) → Weighs (λ x. n) (fit n f)
 fit_weighs n f s at = go (leb n (length s - at))
   where
-    go : (b : Bool) → Takes (λ x. n) at (got_num (pick b (num.Got (f s at) (at + n)) (num.No 5)))
+    go : (b : Bool) → Takes (λ x. n) at (pick b (Ok (f s at, at + n)) (Err BadItem))
     go true = takes (omega arith)
     go false = takes tt
 
 -- a number that must pass a test
-tested_weighs : (n : ℕ) (m : Nums) (ok : ℕ → Bool) (k : ℕ) → Weighs (λ x. n) (a m)
-    → Weighs (λ x. n) (a (λ s at. as_num (bind (got_num (m s at)) (λ x next. unless (ok x) k x s next))))
-tested_weighs n m ok k h s at = as_num_takes (then _ (h s at) (λ x i q. unless_takes (ok x) k x s i q))
+tested_weighs : (n : ℕ) (m : Parser ℕ) (ok : ℕ → Bool) (k : Fault) → Weighs (λ x. n) m → Weighs (λ x. n) (do x ← m; unless (ok x) k x)
+tested_weighs n m ok k h s at = then _ (h s at) (λ x i q. unless_takes (ok x) k x s i q)
 
-word4_weighs : Weighs (λ x. 4) (a word4)
+word4_weighs : Weighs (λ x. 4) word4
 unfolding word4
 word4_weighs = fit_weighs 4 le4
 
-word8_weighs : Weighs (λ x. 8) (a word8)
+word8_weighs : Weighs (λ x. 8) word8
 unfolding word8
 word8_weighs = fit_weighs 8 le8
 
-byte_weighs : Weighs (λ x. 1) (a byte)
+byte_weighs : Weighs (λ x. 1) byte
 unfolding byte
 byte_weighs = fit_weighs 1 (λ s at. get_or s at 0)
 
-span_weighs : Weighs (λ x. 4) (a span)
+span_weighs : Weighs (λ x. 4) span
 unfolding span
 span_weighs = word4_weighs
 
-name_weighs : (n : ℕ) → Weighs (λ x. 2) (a (name n))
+name_weighs : (n : ℕ) → Weighs (λ x. 2) (name n)
 unfolding name word2
-name_weighs n = tested_weighs 2 (fit 2 le2) (λ x. ltb x n) 6 (fit_weighs 2 le2)
+name_weighs n = tested_weighs 2 (fit 2 le2) (λ x. ltb x n) BadName (fit_weighs 2 le2)
 
-flag_weighs : Weighs (λ x. 1) (a flag)
+flag_weighs : Weighs (λ x. 1) flag
 unfolding flag
-flag_weighs = tested_weighs 1 byte (λ x. ltb x 2) 5 byte_weighs
+flag_weighs = tested_weighs 1 byte (λ x. ltb x 2) BadItem byte_weighs
 
-count_weighs : Weighs (λ x. 1) (a count)
+count_weighs : Weighs (λ x. 1) count
 unfolding count
-count_weighs = tested_weighs 1 byte (λ x. leb x 32) 7 byte_weighs
+count_weighs = tested_weighs 1 byte (λ x. leb x 32) TooMany byte_weighs
 
-opcode_weighs : Weighs (λ x. 1) (a opcode)
+opcode_weighs : Weighs (λ x. 1) opcode
 unfolding opcode
-opcode_weighs = tested_weighs 1 byte (λ x. ltb x 16) 5 byte_weighs
+opcode_weighs = tested_weighs 1 byte (λ x. ltb x 16) BadItem byte_weighs
 
-operand_weighs : (n : ℕ) → Weighs operand_weight (an (operand n))
+operand_weighs : (n : ℕ) → Weighs operand_weight (operand n)
 unfolding operand
-operand_weighs n s at = as_opd_takes (
+operand_weighs n s at =
     then _ (span_weighs s at) (λ sp i h.
     then _ (name_weighs n s i) (λ x j k.
     then _ (flag_weighs s j) (λ f l m.
-    then _ (word8_weighs s l) (λ v e r. let z : at + 2 ≤ e = omega arith in unless_takes (indexed f v) 5 _ s e z)))))
+    then _ (word8_weighs s l) (λ v e r. let z : at + 2 ≤ e = omega arith in unless_takes (indexed f v) BadItem _ s e z))))
 
 named_weighs : (n : ℕ) → Weighs named_weight (named n)
 unfolding named
@@ -268,31 +260,31 @@ items_weigh n t =
 -- a NAME is read from the front of its payload
 payload_takes : (n : ℕ) (ns : List (List ℕ)) (t : ℕ) (s : List ℕ) → Takes field_weight 0 (payload n ns t s 0)
 unfolding payload name_field
-payload_takes n ns t s = either_takes (eqb t 1) _ _ s 0 (unless_takes (fresh ns s) 6 (name_f s) s (length s) (omega arith)) (items_weigh n t s 0)
+payload_takes n ns t s = either_takes (eqb t 1) _ _ s 0 (unless_takes (fresh ns s) BadName (name_f s) s (length s) (omega arith)) (items_weigh n t s 0)
 
 -- a payload that is read whole
 whole_takes : {A B : Type 0} {v : A → ℕ} {w : B → ℕ} {at : ℕ} (m : Parser A) (s : List ℕ) (f : A → ℕ → Got B) → Takes v 0 (m s 0)
     → ((x : A) (n : ℕ) → v x ≤ length s → Takes w at (f x n)) → Takes w at (bind (whole m s 0) f)
 whole_takes {A} {B} {v} {w} {at} m s f t h = go (m s 0) t
   where
-    end : (x : A) (n : ℕ) → v x ≤ n → (b : Bool) → eqb n (length s) ≡ b → Takes w at (bind (pick b (got x n) (no 5)) f)
+    end : (x : A) (n : ℕ) → v x ≤ n → (b : Bool) → eqb n (length s) ≡ b → Takes w at (bind (pick b (Ok (x, n)) (Err BadItem)) f)
     end x n q true e = h x n (omega (arith, eqb→eq n (length s) (subst T (sym e) tt)))
     end x n q false e = takes tt
 
-    go : (g : Got A) → Takes v 0 g → Takes w at (bind (bind g (λ x n. pick (eqb n (length s)) (got x n) (no 5))) f)
-    go (no k) t = takes tt
-    go (got x n) (takes q) = end x n (omega arith) (eqb n (length s)) refl
+    go : (g : Got A) → Takes v 0 g → Takes w at (bind (bind g (λ x n. pick (eqb n (length s)) (Ok (x, n)) (Err BadItem))) f)
+    go (Err k) t = takes tt
+    go (Ok r) (takes q) = end r.0 r.1 (omega arith) (eqb r.1 (length s)) refl
 
-must_weighs : (ok : Bool) (k : ℕ) → Weighs (λ x. 0) (must ok k)
+must_weighs : (ok : Bool) (k : Fault) → Weighs (λ x. 0) (must ok k)
 must_weighs ok k s at = unless_takes ok k tt s at (omega arith)
 
 field_weighs : (c : Counts) (ns : List (List ℕ)) → Weighs field_weight (field c ns)
 unfolding field
 field_weighs c ns img at =
-    then _ (must_weighs (leb 3 (length img - at)) 3 img at) (λ _ i _.
-    then _ (must_weighs (placed c (get_or img at 0)) 4 img i) (λ _ j _.
-    then _ (must_weighs (leb (len_at img at) (length img - (at + 3))) 3 img j) (λ _ k _.
-    then _ (must_weighs (within c (get_or img at 0)) 7 img k) (λ _ l _.
+    then _ (must_weighs (leb 3 (length img - at)) Cut img at) (λ _ i _.
+    then _ (must_weighs (placed c (get_or img at 0)) BadTag img i) (λ _ j _.
+    then _ (must_weighs (leb (len_at img at) (length img - (at + 3))) Cut img j) (λ _ k _.
+    then _ (must_weighs (within c (get_or img at 0)) TooMany img k) (λ _ l _.
     whole_takes (payload c.names ns (get_or img at 0)) (load_at img at) _ (payload_takes c.names ns (get_or img at 0) (load_at img at)) (λ f n h.
     takes (omega (arith, length-take (len_at img at) (drop (at + 3) img))))))))
 
@@ -310,8 +302,8 @@ more_held at m n f (fields l) h t = omega arith
 
 either_held : (at n : ℕ) (g : Got Field) (rest : ℕ → Fields) → Takes field_weight at g → ((m : ℕ) → Held m n (rest m))
     → Held at n (either g (λ j. refused j at) (λ f m. more f (rest m)))
-either_held at n (no k) rest t h = tt
-either_held at n (got f m) rest (takes q) h = more_held at m n f (rest m) q (h m)
+either_held at n (Err k) rest t h = tt
+either_held at n (Ok r) rest (takes q) h = more_held at r.1 n r.0 (rest r.1) q (h r.1)
 
 from_held : (k : ℕ) (c : Counts) (ns : List (List ℕ)) (img : List ℕ) (at : ℕ) → Held at (length img) (from k c ns img at)
 unfolding from
@@ -319,7 +311,7 @@ from_held zero c ns img at = tt
 from_held (suc k) c ns img at = go (eqb at (length img)) refl _ _ (end (c.body || ltb 0 c.ifs))
     (either_held at (length img) (field c ns img at) _ (field_weighs c ns img at) (λ m. from_held k _ _ img m))
   where
-    end : (b : Bool) → at ≡ length img → Held at (length img) (pick b (refused 3 at) (fields []))
+    end : (b : Bool) → at ≡ length img → Held at (length img) (pick b (refused Cut at) (fields []))
     end true e = tt
     end false e = omega arith
 
@@ -333,7 +325,7 @@ scan_held : (img : List ℕ) → Held 0 65536 (scan img)
 unfolding scan
 scan_held img = go (leb (length img) 65536) refl (from (length img + 1) start [] img 0) (from_held (length img + 1) start [] img 0)
   where
-    go : (b : Bool) → leb (length img) 65536 ≡ b → (F : Fields) → Held 0 (length img) F → Held 0 65536 (pick b F (refused 2 0))
+    go : (b : Bool) → leb (length img) 65536 ≡ b → (F : Fields) → Held 0 (length img) F → Held 0 65536 (pick b F (refused TooLong 0))
     go true e (refused k o) h = tt
     go true e (fields l) h = omega (arith, leb→le (length img) 65536 (subst T (sym e) tt))
     go false e F h = tt

@@ -1,8 +1,6 @@
 -- The words that the promises are written in. A graph of calls is a test on gates' numbers: `E g h` says that g calls h.
-use Rattle.std.specs.Prelude.{◌≡◌, ◌⊎◌, Bool, true, false, ◌||◌, List, [], ◌∷◌, map, ℕ, zero, suc, ◌+◌, ◌≤◌, ◌<◌, T, eqb, ltb, length, get_or}
-use Rattle.std.proofs.Math.Option.{Option, none, some}
-use Rattle.rules.specs.declared.FoundGate.{FoundGate}
-use Rattle.rules.specs.declared.FoundGate.TheVariants.{Known, Unknown}
+use Rattle.rules.specs.declared.Header.{Header}
+use Rattle.std.specs.Prelude.{◌≡◌, ◌⊎◌, Bool, true, false, ◌||◌, List, [], ◌∷◌, map, ℕ, zero, suc, ◌+◌, ◌≤◌, ◌<◌, T, eqb, ltb, length, get_or, Option, Some, None}
 use Rattle.rules.specs.declared.Answer.TheVariants.{Done, Machine, Entries}
 use Rattle.rules.specs.Basics.{pick}
 use Rattle.rules.specs.Syntax.{Stmt, u, cx, measure, reset, barrier, call, if, missing, Program}
@@ -89,12 +87,12 @@ pub record CalleesFirst (n : ℕ) (E : ℕ → ℕ → Bool) (l : List ℕ) : Ty
 -- ---- the calls of a program
 
 -- what is known of a name is that it is gate g's
-abbrev pub numbered : FoundGate → ℕ → Bool
-numbered Unknown g = false
-numbered (Known h) g = eqb h.number g
+abbrev pub numbered : Option Header → ℕ → Bool
+numbered None g = false
+numbered (Some h) g = eqb h.number g
 
 -- the statement calls gate g, where `gates` tells what is known of a name
-unfoldable pub called : (gates : ℕ → FoundGate) → Stmt → ℕ → Bool
+unfoldable pub called : (gates : ℕ → Option Header) → Stmt → ℕ → Bool
 called gates (u sp o x y z) g = false
 called gates (cx sp x y) g = false
 called gates (measure sp x y) g = false
@@ -105,13 +103,13 @@ called gates (if sp o vs v s) g = called gates s g
 called gates missing g = false
 
 -- one of the statements does
-unfoldable pub called_in : (gates : ℕ → FoundGate) → List Stmt → ℕ → Bool
+unfoldable pub called_in : (gates : ℕ → Option Header) → List Stmt → ℕ → Bool
 called_in gates [] g = false
 called_in gates (s ∷ ss) g = called gates s g || called_in gates ss g
 
-abbrev pub called_by : (gates : ℕ → FoundGate) → Option (List Stmt) → ℕ → Bool
-called_by gates none g = false
-called_by gates (some ss) g = called_in gates ss g
+abbrev pub called_by : (gates : ℕ → Option Header) → Option (List Stmt) → ℕ → Bool
+called_by gates None g = false
+called_by gates (Some ss) g = called_in gates ss g
 
 -- which gate of the program calls which
 abbrev pub calls_in : Program → ℕ → ℕ → Bool

@@ -54,14 +54,22 @@ unfolding operand_in
 operand_whole s at x y w z ex ey ez ew = rw (ex.0, ey.0, ez, ew) refl
 
 -- the payload
-pub load_none : (img : List ℕ) (at : ℕ) → length img - at < 3 → [] ≡ load_at img at
+load_none : (img : List ℕ) (at : ℕ) → length img - at < 3 → [] ≡ load_at img at
 load_none img at h = let g : length img ≤ at + 3 = omega arith in rw (drop_of_length-le img g) (sym (take-nil (len_at img at)))
 
-pub load_part : (img : List ℕ) (at end : ℕ) → end ≡ next_in img at → 3 ≤ length img - at → take (end - (at + 3)) (drop (at + 3) img) ≡ load_at img at
+load_part : (img : List ℕ) (at end : ℕ) → end ≡ next_in img at → 3 ≤ length img - at → take (end - (at + 3)) (drop (at + 3) img) ≡ load_at img at
 load_part img at end e h = elim (dec_le (past img at) (length img)) [
   | yes l ↦ let q : end - (at + 3) ≡ len_at img at = omega arith in ap (λ n. take n (drop (at + 3) img)) q
   | no l ↦
       let d : length (drop (at + 3) img) ≡ length img - (at + 3) = length-drop (at + 3) img in
       let q : end ≡ length img = omega arith in
       take_all (end - (at + 3)) (drop (at + 3) img) (omega arith) ∙ sym (take_all (len_at img at) (drop (at + 3) img) (omega arith))
+]
+
+pub load_between : (img : List ℕ) (at from end : ℕ) → from ≡ min (at + 3) (length img) → end ≡ next_in img at → take (end - from) (drop from img) ≡ load_at img at
+load_between img at from end f e = elim (dec_le 3 (length img - at)) [
+  | yes l ↦ let q : from ≡ at + 3 = omega arith in rw q (load_part img at end e l)
+  | no l ↦
+      let g : length img ≤ from = omega arith in
+      rw (drop_of_length-le img g) (take-nil (end - from) ∙ load_none img at (omega arith))
 ]

@@ -4,3 +4,5 @@ pub mod Rows
 pub mod Steps
 pub mod Bridge
 pub mod Limits
+pub mod Fields
+pub mod Items

@@ -1,9 +1,10 @@
 -- A program that is read has at most 128 gates.
-use Rattle.std.specs.Prelude.{ℕ, zero, suc, ◌+◌, ◌<◌, ◌≤◌, ◌≡◌, refl, List, [], ◌∷◌, ◌++◌, Bool, true, false, ◌||◌, length, get_or, ltb, leb, eqb}
+use Rattle.std.specs.Prelude.{Ok, Err, ℕ, zero, suc, ◌+◌, ◌<◌, ◌≤◌, ◌≡◌, refl, List, [], ◌∷◌, ◌++◌, Bool, true, false, ◌||◌, length, get_or, ltb, leb, eqb}
 use Rattle.std.proofs.Common.{arith, ap, ◌∙◌, ltb-true, leb-true, eqb-true, length-append, lit≤}
 use Rattle.rules.specs.declared.Counts.{Counts}
+use Rattle.rules.specs.declared.Fault.TheVariants.{TooLong}
 use Rattle.rules.specs.Basics.{pick}
-use Rattle.rules.specs.Items.{Got, no, got}
+use Rattle.rules.specs.Items.{Got}
 use Rattle.rules.specs.Reading.{within, next, field, either, more, from, names_then, start, scan, load_at, refused, fields}
 use Rattle.rules.specs.Syntax.{Gate, Program, Field, name_f, include_f, reg_f, gate_f, end_f, stmt_f, if_f}
 use Rattle.rules.specs.Grouping.{body_of, decls, open_after, group, program, read}
@@ -54,13 +55,13 @@ from_few (suc k) c few small ns img at l p = go (eqb at (length img)) refl (λ d
     after : (g : Got Field) → field c ns img at ≡ g → IH
         → either g (λ j. refused j at) (λ f m. more f (from k (next c (get_or img at 0) (load_at img at)) (names_then ns (get_or img at 0) (load_at img at)) img m)) ≡ fields l
         → c.gates + gate_fields l ≤ 128
-    after (no j) e ih q = let z : ◌≡◌ {A = ℕ} 0 1 = cc in absurd (omega arith)
-    after (got f m) e ih q =
-        let r = more_is f _ l q in
-        let i = field_is c few ns img at f m e in
-        let w = is_within c ns img at f m e in
-        let h = ih (next c (get_or img at 0) (load_at img at)) (names_within c (load_at img at) (get_or img at 0) w few) (gates_within c (load_at img at) (get_or img at 0) w small) _ m r.0 r.1 in
-        let n : gate_fields l ≡ pick (eqb (get_or img at 0) 5) 1 0 + gate_fields r.0 = ap gate_fields r.2 ∙ ap (λ x. gate_fields (x ∷ r.0)) i.0 ∙ counted (load_at img at) r.0 (get_or img at 0) in
+    after (Err j) e ih q = let z : ◌≡◌ {A = ℕ} 0 1 = cc in absurd (omega arith)
+    after (Ok r) e ih q =
+        let t = more_is r.0 _ l q in
+        let i = field_is c few ns img at r.0 r.1 e in
+        let w = is_within c ns img at r.0 r.1 e in
+        let h = ih (next c (get_or img at 0) (load_at img at)) (names_within c (load_at img at) (get_or img at 0) w few) (gates_within c (load_at img at) (get_or img at 0) w small) _ r.1 t.0 t.1 in
+        let n : gate_fields l ≡ pick (eqb (get_or img at 0) 5) 1 0 + gate_fields t.0 = ap gate_fields t.2 ∙ ap (λ x. gate_fields (x ∷ t.0)) i.0 ∙ counted (load_at img at) t.0 (get_or img at 0) in
         omega arith
 
     go : (b : Bool) → eqb at (length img) ≡ b → IH → c.gates + gate_fields l ≤ 128
@@ -117,6 +118,6 @@ short img p e =
     let o = grouped_is (scan img) p e in
     by (leb (length img) 65536) refl o.0 o.1
   where
-    by : (b : Bool) → leb (length img) 65536 ≡ b → (l : List Field) → pick b (from (length img + 1) start [] img 0) (refused 2 0) ≡ fields l → length img ≤ 65536
+    by : (b : Bool) → leb (length img) 65536 ≡ b → (l : List Field) → pick b (from (length img + 1) start [] img 0) (refused TooLong 0) ≡ fields l → length img ≤ 65536
     by true q l r = leb-true _ _ q
     by false q l r = let z : ◌≡◌ {A = ℕ} 0 1 = cc in absurd (omega arith)

@@ -1,12 +1,15 @@
 -- Items in a row, one at a time; past the end every place reads the same, so that a place may stop there.
-use Prim.Native.Nat.{ℕ, zero, suc, ◌+◌, ◌-◌, ◌%◌, ◌<◌, ◌≤◌}
+use Prim.Native.Nat.{ℕ, zero, suc, ◌+◌, ◌-◌, ◌*◌, ◌%◌, ◌<◌, ◌≤◌}
 use Rattle.std.proofs.Common.{arith, sub-one, sym, ap, ◌∙◌}
 use Rattle.std.proofs.Math.Decide.{dec_le}
-use Rattle.std.specs.Prelude.{◌≡◌, List, [], ◌∷◌, length, get_or}
+use Rattle.std.specs.Prelude.{◌≡◌, List, [], ◌∷◌, length, get_or, take}
 use Rattle.std.proofs.Math.Path.{refl}
+use native.Mathlib.Nat.{mul-suc, mod-lt}
+use lib.Dec.{lit<}
 use Rattle.std.proofs.Math.ListN.{get_or-eq_default}
+use Rattle.rules.specs.declared.Named.{Named}
 use Rattle.rules.specs.Items.{le2, le4, le8}
-use Rattle.views.specs.View.{on, name_in, operand_in, named_in, row_in}
+use Rattle.views.specs.View.{on, name_in, operand_in, named_in, row_in, row_past}
 
 -- reads the same at all places past the end
 abbrev pub Ends : {A : Type 0} → (List ℕ → ℕ → A) → Type 0
@@ -75,3 +78,27 @@ module _ {A : Type 0} (v : List ℕ → ℕ → A) (w : ℕ) (ends : Ends v) whe
   unfolding row_in
   row_none zero s at h = refl
   row_none (suc k) s at h = absurd (omega arith)
+
+  pub row_length : (k : ℕ) (s : List ℕ) (at : ℕ) → length (row_in v w k s at) ≡ k
+  unfolding row_in
+  row_length zero s at = refl
+  row_length (suc k) s at = ap suc (row_length k s (at + w))
+
+  -- a row that stops early
+  pub row_take : (j k : ℕ) (s : List ℕ) (at : ℕ) → j ≤ k → row_in v w j s at ≡ take j (row_in v w k s at)
+  unfolding row_in
+  row_take zero k s at h = refl
+  row_take (suc j) zero s at h = absurd (omega arith)
+  row_take (suc j) (suc k) s at h = ap (λ l. v s at ∷ l) (row_take j k s (at + w) (omega arith))
+
+-- six bytes a name
+pub past_names : (k at : ℕ) → row_past 6 k at ≡ at + 6 * k
+unfolding row_past
+past_names zero at = omega arith
+past_names (suc k) at = past_names k (at + 6) ∙ (let e : at + 6 + 6 * k ≡ at + 6 * suc k = omega (arith, mul-suc 6 k) in e)
+
+-- a name of a row is below 512
+pub named_small : (k : ℕ) (s : List ℕ) (at : ℕ) (n : Named) (l : List Named) → row_in named_in 6 k s at ≡ n ∷ l → n.name < 512
+unfolding row_in named_in
+named_small zero s at n l e = absurd (let z : length {A = Named} [] ≡ length (n ∷ l) = ap length e in omega arith)
+named_small (suc k) s at n l e = let h : name_in s (at + 4) ≡ n.name = ap (λ l. (get_or l 0 n).name) e in rw (← h) (mod-lt (le2 s (at + 4)) (lit< tt))

@@ -82,86 +82,68 @@ plain_not6 t a = let h = plain_high t a in ne_eqb t 6 (omega arith)
 unfoldable pub gate_at_place : List ℕ → List Field → Gate
 gate_at_place p l = record { decl = le4 p 0; span = le4 p 4; name = name_in p 8; params = params_in p; args = args_in p; body = body_of (eqb (get_or p 10 0) 1) l }
 
-module _ (img : List ℕ) (at t next : ℕ) (p : List ℕ) (h : at < length img) (et : t ≡ get_or img at 0) (ep : p ≡ load_at img at) (en : next ≡ next_in img at) where
-  pub here : rest img at ≡ field_in t p ∷ rest img next
-  unfolding field_at
-  here = rest_next img at h ∙ (rw (en, ep, et) refl)
+-- ---- a field and the fields after it
 
-  pub plain_stmt : is_plain t ≡ true → (stmt (rest img at) ≡ stmt_in t p) × (after (rest img at) ≡ rest img next)
+module _ (t : ℕ) (p : List ℕ) (l : List Field) where
+  pub first_plain : is_plain t ≡ true → (stmt (field_in t p ∷ l) ≡ stmt_in t p) × (after (field_in t p ∷ l) ≡ l)
   unfolding stmt after field_in
-  plain_stmt e = rw (here, e) (refl, refl)
+  first_plain e = rw e (refl, refl)
 
-  pub if_stmt : t ≡ 22 → (stmt (rest img at) ≡ if (le4 p 0) (operand_in p 4) (le4 p 19) (le8 p 23) (stmt (rest img next))) × (after (rest img at) ≡ after (rest img next))
+  pub first_if : t ≡ 22 → (stmt (field_in t p ∷ l) ≡ if (le4 p 0) (operand_in p 4) (le4 p 19) (le8 p 23) (stmt l)) × (after (field_in t p ∷ l) ≡ after l)
   unfolding stmt after field_in if_in
-  if_stmt e = rw (here, e) (refl, refl)
+  first_if e = rw e (refl, refl)
 
   -- a field that is no statement
-  no_stmt : is_stmt t ≡ false → (stmt (field_in t p ∷ rest img next) ≡ missing) × (after (field_in t p ∷ rest img next) ≡ field_in t p ∷ rest img next)
+  pub first_none : is_stmt t ≡ false → (stmt (field_in t p ∷ l) ≡ missing) × (after (field_in t p ∷ l) ≡ field_in t p ∷ l)
   unfolding stmt after gate_in
-  no_stmt =
-      by_kind (λ t f. is_stmt t ≡ false → (stmt (f ∷ rest img next) ≡ missing) × (after (f ∷ rest img next) ≡ f ∷ rest img next)) p
+  first_none =
+      by_kind (λ t f. is_stmt t ≡ false → (stmt (f ∷ l) ≡ missing) × (after (f ∷ l) ≡ f ∷ l)) p
       (λ t a b. absurd (plain_is t a b)) (λ b. absurd (subst T b tt)) (λ b. (refl, refl)) (λ b. (refl, refl)) (λ b. (refl, refl)) (λ b. (refl, refl)) (λ b. (refl, refl))
       (λ b. (refl, refl)) (λ t k b. (refl, refl)) t
 
-  pub none_stmt : is_stmt t ≡ false → (stmt (rest img at) ≡ missing) × (after (rest img at) ≡ rest img at)
-  none_stmt e = rw here (no_stmt e)
-
   -- a statement, at the top level or in a body
-  begins_top : is_stmt t ≡ true → decls false false (field_in t p ∷ rest img next) ≡ top (stmt (field_in t p ∷ rest img next)) ∷ decls false false (after (field_in t p ∷ rest img next))
+  pub first_top : is_stmt t ≡ true → decls false false (field_in t p ∷ l) ≡ top (stmt (field_in t p ∷ l)) ∷ decls false false (after (field_in t p ∷ l))
   unfolding decls stmt after if_in
-  begins_top =
-      by_kind (λ t f. is_stmt t ≡ true → decls false false (f ∷ rest img next) ≡ top (stmt (f ∷ rest img next)) ∷ decls false false (after (f ∷ rest img next))) p
-      (λ t a b. refl) (λ b. ap (λ l. top (if (le4 p 0) (operand_in p 4) (le4 p 19) (le8 p 23) (stmt (rest img next))) ∷ l) (decls_after (rest img next)))
+  first_top =
+      by_kind (λ t f. is_stmt t ≡ true → decls false false (f ∷ l) ≡ top (stmt (f ∷ l)) ∷ decls false false (after (f ∷ l))) p
+      (λ t a b. refl) (λ b. ap (λ ds. top (if (le4 p 0) (operand_in p 4) (le4 p 19) (le8 p 23) (stmt l)) ∷ ds) (decls_after l))
       (λ b. absurd (subst T (sym b) tt)) (λ b. absurd (subst T (sym b) tt)) (λ b. absurd (subst T (sym b) tt)) (λ b. absurd (subst T (sym b) tt)) (λ b. absurd (subst T (sym b) tt)) (λ b. absurd (subst T (sym b) tt))
       (λ t k b. absurd (subst T (sym b ∙ k.stmt) tt)) t
 
-  pub top_here : is_stmt t ≡ true → decls false false (rest img at) ≡ top (stmt (rest img at)) ∷ decls false false (after (rest img at))
-  top_here e = rw here (begins_top e)
-
-  begins_stmt : is_stmt t ≡ true → stmts false (field_in t p ∷ rest img next) ≡ stmt (field_in t p ∷ rest img next) ∷ stmts false (after (field_in t p ∷ rest img next))
+  pub first_stmt : is_stmt t ≡ true → stmts false (field_in t p ∷ l) ≡ stmt (field_in t p ∷ l) ∷ stmts false (after (field_in t p ∷ l))
   unfolding stmts stmt after if_in
-  begins_stmt =
-      by_kind (λ t f. is_stmt t ≡ true → stmts false (f ∷ rest img next) ≡ stmt (f ∷ rest img next) ∷ stmts false (after (f ∷ rest img next))) p
-      (λ t a b. refl) (λ b. ap (λ l. if (le4 p 0) (operand_in p 4) (le4 p 19) (le8 p 23) (stmt (rest img next)) ∷ l) (stmts_after (rest img next)))
+  first_stmt =
+      by_kind (λ t f. is_stmt t ≡ true → stmts false (f ∷ l) ≡ stmt (f ∷ l) ∷ stmts false (after (f ∷ l))) p
+      (λ t a b. refl) (λ b. ap (λ ss. if (le4 p 0) (operand_in p 4) (le4 p 19) (le8 p 23) (stmt l) ∷ ss) (stmts_after l))
       (λ b. absurd (subst T (sym b) tt)) (λ b. absurd (subst T (sym b) tt)) (λ b. absurd (subst T (sym b) tt)) (λ b. absurd (subst T (sym b) tt)) (λ b. absurd (subst T (sym b) tt)) (λ b. absurd (subst T (sym b) tt))
       (λ t k b. absurd (subst T (sym b ∙ k.stmt) tt)) t
-
-  pub stmt_here : is_stmt t ≡ true → stmts false (rest img at) ≡ stmt (rest img at) ∷ stmts false (after (rest img at))
-  stmt_here e = rw here (begins_stmt e)
 
   -- the end of a body, and a field in it that is no statement
-  pub body_end : t ≡ 6 → stmts false (rest img at) ≡ []
+  pub first_end : t ≡ 6 → stmts false (field_in t p ∷ l) ≡ []
   unfolding stmts field_in
-  body_end e = rw (here, e) refl
+  first_end e = rw e refl
 
-  skips_stmt : is_stmt t ≡ false → (t ≡ 6 → ⊥) → stmts false (field_in t p ∷ rest img next) ≡ stmts false (rest img next)
+  pub first_skip : is_stmt t ≡ false → (t ≡ 6 → ⊥) → stmts false (field_in t p ∷ l) ≡ stmts false l
   unfolding stmts gate_in
-  skips_stmt =
-      by_kind (λ t f. is_stmt t ≡ false → (t ≡ 6 → ⊥) → stmts false (f ∷ rest img next) ≡ stmts false (rest img next)) p
+  first_skip =
+      by_kind (λ t f. is_stmt t ≡ false → (t ≡ 6 → ⊥) → stmts false (f ∷ l) ≡ stmts false l) p
       (λ t a b n. absurd (plain_is t a b)) (λ b n. absurd (subst T b tt)) (λ b n. refl) (λ b n. refl) (λ b n. refl) (λ b n. refl) (λ b n. absurd (n refl)) (λ b n. refl) (λ t k b n. refl) t
 
-  pub body_skip : is_stmt t ≡ false → (t ≡ 6 → ⊥) → stmts false (rest img at) ≡ stmts false (rest img next)
-  body_skip e n = rw here (skips_stmt e n)
-
-  -- ---- declarations
-
-  inside_field : decls true false (field_in t p ∷ rest img next) ≡ decls (then true t p) false (rest img next)
+  -- declarations
+  pub first_inside : decls true false (field_in t p ∷ l) ≡ decls (then true t p) false l
   unfolding decls open_after then gate_in if_in
-  inside_field =
-      by_kind (λ t f. decls true false (f ∷ rest img next) ≡ decls (then true t p) false (rest img next)) p
+  first_inside =
+      by_kind (λ t f. decls true false (f ∷ l) ≡ decls (then true t p) false l) p
       (λ t a. rw (plain_not6 t a) refl) refl refl refl refl refl refl refl (λ t k. rw k.not6 refl) t
 
-  pub inside_here : decls true false (rest img at) ≡ decls (then true t p) false (rest img next)
-  inside_here = rw here inside_field
-
-  pub gate_here_lem : t ≡ 5 → decls false false (rest img at) ≡ gate (gate_at_place p (rest img next)) ∷ decls (then false t p) false (rest img next)
+  pub first_gate : t ≡ 5 → decls false false (field_in t p ∷ l) ≡ gate (gate_at_place p l) ∷ decls (then false t p) false l
   unfolding decls field_in gate_in then gate_at_place
-  gate_here_lem e = rw (here, e) refl
+  first_gate e = rw e refl
 
-  pub reg_here_lem : (c : Bool) → t ≡ pick c 4 3 → decls false false (rest img at) ≡ reg c (le4 p 0) (operand_in p 4) ∷ decls (then false t p) false (rest img next)
+  pub first_reg : (c : Bool) → t ≡ pick c 4 3 → decls false false (field_in t p ∷ l) ≡ reg c (le4 p 0) (operand_in p 4) ∷ decls (then false t p) false l
   unfolding decls field_in then
-  reg_here_lem true e = rw (here, e) refl
-  reg_here_lem false e = rw (here, e) refl
+  first_reg true e = rw e refl
+  first_reg false e = rw e refl
 
 -- ---- passes that look at some declarations only
 
@@ -189,37 +171,76 @@ governed_same X h (end_f ∷ l) = refl
 governed_same X h (stmt_f s ∷ l) = sym (h s (decls false false l))
 governed_same X h (if_f sp o vs v ∷ l) = sym (h (if sp o vs v (stmt l)) (decls false true l))
 
-module _ {A : Type 0} (X : List Decl → A) (no_include : NoInclude X) (img : List ℕ) (at t next : ℕ) (p : List ℕ) (h : at < length img) (et : t ≡ get_or img at 0)
-    (ep : p ≡ load_at img at) (en : next ≡ next_in img at) where
+module _ {A : Type 0} (X : List Decl → A) (no_include : NoInclude X) (t : ℕ) (p : List ℕ) (l : List Field) where
   -- a pass over statements
-  skip_other : NoReg X → NoGate X → is_stmt t ≡ false → X (decls false false (field_in t p ∷ rest img next)) ≡ X (decls (then false t p) false (rest img next))
+  pub first_other : NoReg X → NoGate X → is_stmt t ≡ false → X (decls false false (field_in t p ∷ l)) ≡ X (decls (then false t p) false l)
   unfolding decls then gate_in
-  skip_other no_reg no_gate =
-      by_kind (λ t f. is_stmt t ≡ false → X (decls false false (f ∷ rest img next)) ≡ X (decls (then false t p) false (rest img next))) p
+  first_other no_reg no_gate =
+      by_kind (λ t f. is_stmt t ≡ false → X (decls false false (f ∷ l)) ≡ X (decls (then false t p) false l)) p
       (λ t a b. absurd (plain_is t a b)) (λ b. absurd (subst T b tt)) (λ b. no_include _ _ _) (λ b. no_reg _ _ _ _) (λ b. no_reg _ _ _ _) (λ b. no_gate _ _) (λ b. refl) (λ b. refl)
       (λ t k b. rw k.not5 refl) t
 
-  pub other_here : NoReg X → NoGate X → is_stmt t ≡ false → X (decls false false (rest img at)) ≡ X (decls (then false t p) false (rest img next))
-  other_here no_reg no_gate e = rw (here img at t next p h et ep en) (skip_other no_reg no_gate e)
-
   -- a pass over gates
-  skip_gates : NoTop X → NoReg X → (t ≡ 5 → ⊥) → X (decls false false (field_in t p ∷ rest img next)) ≡ X (decls (then false t p) false (rest img next))
+  pub first_not_gate : NoTop X → NoReg X → (t ≡ 5 → ⊥) → X (decls false false (field_in t p ∷ l)) ≡ X (decls (then false t p) false l)
   unfolding decls then gate_in if_in
-  skip_gates no_top no_reg =
-      by_kind (λ t f. (t ≡ 5 → ⊥) → X (decls false false (f ∷ rest img next)) ≡ X (decls (then false t p) false (rest img next))) p
-      (λ t a n. rw (ne_eqb t 5 n) (no_top _ _)) (λ n. no_top _ _ ∙ governed_same X no_top (rest img next)) (λ n. no_include _ _ _) (λ n. no_reg _ _ _ _) (λ n. no_reg _ _ _ _) (λ n. absurd (n refl))
+  first_not_gate no_top no_reg =
+      by_kind (λ t f. (t ≡ 5 → ⊥) → X (decls false false (f ∷ l)) ≡ X (decls (then false t p) false l)) p
+      (λ t a n. rw (ne_eqb t 5 n) (no_top _ _)) (λ n. no_top _ _ ∙ governed_same X no_top l) (λ n. no_include _ _ _) (λ n. no_reg _ _ _ _) (λ n. no_reg _ _ _ _) (λ n. absurd (n refl))
       (λ n. refl) (λ n. refl) (λ t k n. rw k.not5 refl) t
 
-  pub gates_skip : NoTop X → NoReg X → (t ≡ 5 → ⊥) → X (decls false false (rest img at)) ≡ X (decls (then false t p) false (rest img next))
-  gates_skip no_top no_reg n = rw (here img at t next p h et ep en) (skip_gates no_top no_reg n)
-
   -- a pass over registers
-  skip_regs : NoTop X → NoGate X → (t ≡ 3 → ⊥) → (t ≡ 4 → ⊥) → X (decls false false (field_in t p ∷ rest img next)) ≡ X (decls (then false t p) false (rest img next))
+  pub first_not_reg : NoTop X → NoGate X → (t ≡ 3 → ⊥) → (t ≡ 4 → ⊥) → X (decls false false (field_in t p ∷ l)) ≡ X (decls (then false t p) false l)
   unfolding decls then gate_in if_in
-  skip_regs no_top no_gate =
-      by_kind (λ t f. (t ≡ 3 → ⊥) → (t ≡ 4 → ⊥) → X (decls false false (f ∷ rest img next)) ≡ X (decls (then false t p) false (rest img next))) p
-      (λ t a m n. rw (plain_not5 t a) (no_top _ _)) (λ m n. no_top _ _ ∙ governed_same X no_top (rest img next)) (λ m n. no_include _ _ _) (λ m n. absurd (m refl)) (λ m n. absurd (n refl)) (λ m n. no_gate _ _)
+  first_not_reg no_top no_gate =
+      by_kind (λ t f. (t ≡ 3 → ⊥) → (t ≡ 4 → ⊥) → X (decls false false (f ∷ l)) ≡ X (decls (then false t p) false l)) p
+      (λ t a m n. rw (plain_not5 t a) (no_top _ _)) (λ m n. no_top _ _ ∙ governed_same X no_top l) (λ m n. no_include _ _ _) (λ m n. absurd (m refl)) (λ m n. absurd (n refl)) (λ m n. no_gate _ _)
       (λ m n. refl) (λ m n. refl) (λ t k m n. rw k.not5 refl) t
 
+-- ---- the same where a field stands in an image
+
+module _ (img : List ℕ) (at t next : ℕ) (p : List ℕ) (h : at < length img) (et : t ≡ get_or img at 0) (ep : p ≡ load_at img at) (en : next ≡ next_in img at) where
+  pub here : rest img at ≡ field_in t p ∷ rest img next
+  unfolding field_at
+  here = rest_next img at h ∙ (rw (en, ep, et) refl)
+
+  pub plain_stmt : is_plain t ≡ true → (stmt (rest img at) ≡ stmt_in t p) × (after (rest img at) ≡ rest img next)
+  plain_stmt e = rw here (first_plain t p (rest img next) e)
+
+  pub if_stmt : t ≡ 22 → (stmt (rest img at) ≡ if (le4 p 0) (operand_in p 4) (le4 p 19) (le8 p 23) (stmt (rest img next))) × (after (rest img at) ≡ after (rest img next))
+  if_stmt e = rw here (first_if t p (rest img next) e)
+
+  pub none_stmt : is_stmt t ≡ false → (stmt (rest img at) ≡ missing) × (after (rest img at) ≡ rest img at)
+  none_stmt e = rw here (first_none t p (rest img next) e)
+
+  pub top_here : is_stmt t ≡ true → decls false false (rest img at) ≡ top (stmt (rest img at)) ∷ decls false false (after (rest img at))
+  top_here e = rw here (first_top t p (rest img next) e)
+
+  pub stmt_here : is_stmt t ≡ true → stmts false (rest img at) ≡ stmt (rest img at) ∷ stmts false (after (rest img at))
+  stmt_here e = rw here (first_stmt t p (rest img next) e)
+
+  -- the end of a body, and a field in it that is no statement
+  pub body_end : t ≡ 6 → stmts false (rest img at) ≡ []
+  body_end e = rw here (first_end t p (rest img next) e)
+
+  pub body_skip : is_stmt t ≡ false → (t ≡ 6 → ⊥) → stmts false (rest img at) ≡ stmts false (rest img next)
+  body_skip e n = rw here (first_skip t p (rest img next) e n)
+
+  pub inside_here : decls true false (rest img at) ≡ decls (then true t p) false (rest img next)
+  inside_here = rw here (first_inside t p (rest img next))
+
+  pub gate_here_lem : t ≡ 5 → decls false false (rest img at) ≡ gate (gate_at_place p (rest img next)) ∷ decls (then false t p) false (rest img next)
+  gate_here_lem e = rw here (first_gate t p (rest img next) e)
+
+  pub reg_here_lem : (c : Bool) → t ≡ pick c 4 3 → decls false false (rest img at) ≡ reg c (le4 p 0) (operand_in p 4) ∷ decls (then false t p) false (rest img next)
+  reg_here_lem c e = rw here (first_reg t p (rest img next) c e)
+
+module _ {A : Type 0} (X : List Decl → A) (no_include : NoInclude X) (img : List ℕ) (at t next : ℕ) (p : List ℕ) (h : at < length img) (et : t ≡ get_or img at 0)
+    (ep : p ≡ load_at img at) (en : next ≡ next_in img at) where
+  pub other_here : NoReg X → NoGate X → is_stmt t ≡ false → X (decls false false (rest img at)) ≡ X (decls (then false t p) false (rest img next))
+  other_here no_reg no_gate e = rw (here img at t next p h et ep en) (first_other X no_include t p (rest img next) no_reg no_gate e)
+
+  pub gates_skip : NoTop X → NoReg X → (t ≡ 5 → ⊥) → X (decls false false (rest img at)) ≡ X (decls (then false t p) false (rest img next))
+  gates_skip no_top no_reg n = rw (here img at t next p h et ep en) (first_not_gate X no_include t p (rest img next) no_top no_reg n)
+
   pub regs_skip : NoTop X → NoGate X → (t ≡ 3 → ⊥) → (t ≡ 4 → ⊥) → X (decls false false (rest img at)) ≡ X (decls (then false t p) false (rest img next))
-  regs_skip no_top no_gate m n = rw (here img at t next p h et ep en) (skip_regs no_top no_gate m n)
+  regs_skip no_top no_gate m n = rw (here img at t next p h et ep en) (first_not_reg X no_include t p (rest img next) no_top no_gate m n)

@@ -5,7 +5,8 @@ use Rattle.std.proofs.Common.{arith, sym, ap, ◌∙◌, lt-ltb, le-ltb}
 use Rattle.std.proofs.Math.Decide.{dec_le}
 use Rattle.rules.specs.declared.Operand.{Operand}
 use Rattle.rules.specs.Basics.{pick}
-use Rattle.rules.specs.Syntax.{Expr, pi, real, int, var, two, one, Named, Stmt, u, cx, measure, reset, barrier, call, Field, name_f, include_f, reg_f, gate_f, end_f, stmt_f, if_f, Program}
+use Rattle.rules.specs.declared.Named.{Named}
+use Rattle.rules.specs.Syntax.{Expr, pi, real, int, var, two, one, Stmt, u, cx, measure, reset, barrier, call, Field, name_f, include_f, reg_f, gate_f, end_f, stmt_f, if_f, Program}
 use Rattle.rules.specs.Items.{le2, le4, le8}
 use Rattle.rules.specs.Reading.{len_at, load_at}
 use Rattle.rules.specs.Grouping.{group}

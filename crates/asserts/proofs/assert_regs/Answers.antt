@@ -1,15 +1,13 @@
-use mathlib.Core.Path.{refl, ◌∙◌}
+use mathlib.Core.Path.{refl}
 use Rattle.rules.specs.Errors.{error_field}
-use Rattle.output.specs.Sinks.{owes_all, owes_less, owes_none}
-use Rattle.asserts.proofs.Matching.{regs_none, regs_more}
+use Rattle.rules.specs.Checking.{operand_errors}
+use Rattle.output.specs.Writers.{owes_less, owes_none}
 use Rattle.asserts.proofs.assert_regs.Goals as goal
 
-pub loop-left-init : goal.loop-left-init
-loop-left-init c = (refl, owes_all error_field _ _ _)
-
-pub loop-left-preserved : goal.loop-left-preserved
-loop-left-preserved c =
-    (c.assert_reg-r.auto.out ∙ c.loop-left.invariant.0, owes_less error_field (c.loop-left.invariant.1) (regs_more _ _ _ _ _ c.loop-left-test.true _ c.operand.ensures _ c.along-at.ensures) c.assert_reg-r.ensures)
+pub loop-o-preserved : goal.loop-o-preserved
+unfolding operand_errors
+loop-o-preserved c = owes_less error_field c.loop-o.invariant (rw c.in-Some.ensures.steps refl) c.assert_reg.ensures
 
 pub returns : goal.returns
-returns c = owes_none error_field (c.loop-left.invariant.1) (regs_none _ _ _ _ _ c.loop-left-test.false)
+unfolding operand_errors
+returns c = owes_none error_field c.loop-o.invariant (rw c.in-None.ensures.steps.0 refl)

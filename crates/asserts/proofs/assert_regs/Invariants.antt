@@ -1,16 +1,11 @@
-use mathlib.Core.Path.{◌≡◌}
 use mathlib.Core.List.{map}
-use lib.ListN.{length}
 use Rattle.rules.specs.Errors.{error_field}
-use Rattle.views.specs.View.{operand_in, row_in}
-use Rattle.output.specs.Sinks.{Owes}
-use Rattle.tables.specs.Tables.{reg_in}
 use Rattle.rules.specs.Checking.{quantum, operand_errors}
+use Rattle.views.specs.Items.{operands_left}
+use Rattle.output.specs.Writers.{Owes}
+use Rattle.tables.specs.Tables.{reg_in}
 use Rattle.asserts.proofs.assert_regs.Given as goal
 
-abbrev pub invariant-loop-left : goal.invariant-loop-left
-invariant-loop-left l =
-    (length l.out ≡ length l.initial.out) × Owes error_field l.initial.out l.initial.r (operand_errors (reg_in l.t) l.stmt (map quantum (row_in operand_in 15 l.k l.p l.from))) l.out l.r (operand_errors (reg_in l.t) l.stmt (map quantum (row_in operand_in 15 l.left l.p l.at)))
-
-abbrev pub decreases-loop-left : goal.decreases-loop-left
-decreases-loop-left l = l.left
+abbrev pub invariant-loop-o : goal.invariant-loop-o
+invariant-loop-o l =
+    Owes error_field l.initial.w (operand_errors (reg_in l.t) l.stmt (map quantum (operands_left l.os))) l.w (operand_errors (reg_in l.t) l.stmt (map quantum (operands_left l.o-iterator)))

@@ -1,8 +1,6 @@
-use Rattle.asserts.proofs.Values.{var_laws}
+use Rattle.rules.specs.Errors.{error_field}
+use Rattle.output.specs.Writers.{puts_none}
 use Rattle.asserts.proofs.check_var.Goals as goal
 
-pub returns-then-is_param : goal.returns-then-is_param
-returns-then-is_param c = search var_laws
-
-pub returns : goal.returns
-returns c = search var_laws
+pub returns-else-not-is_param : goal.returns-else-not-is_param
+returns-else-not-is_param c = rw (← c.is_param.ensures, c.if-not-is_param.false) (puts_none error_field _)

@@ -1,26 +1,22 @@
-use mathlib.Core.Path.{sym}
-use native.Mathlib.Omega.{arith}
+use borrow.Author.Rules.{rules}
+use mathlib.Core.Path.{sym, ◌∙◌}
 use Rattle.tables.specs.Zeros.{zeros, zeros_length, zeros_word}
-use Rattle.collect.proofs.Registers.{regs_start, regs_moved, regs_done}
+use Rattle.collect.proofs.Registers.{regs_start, regs_inside, regs_other, regs_entered, regs_done}
+use Rattle.collect.proofs.collect_regs.Goals.{else-not-f-via-then-not-f+else-is_reg, else-not-f-via-else-not-f}
 use Rattle.collect.proofs.collect_regs.Goals as goal
 
-pub loop-w-init : goal.loop-w-init
-loop-w-init c = regs_start _ _ (zeros 2048) _ (zeros_length 2048) (zeros_word 2048)
+pub loop-f-init : goal.loop-f-init
+loop-f-init c = regs_start _ (zeros 2048) _ _ (search rules) (search rules) (zeros_length 2048) (zeros_word 2048)
 
-pub slice_bounds-reg_step-end : goal.slice_bounds-reg_step-end
-slice_bounds-reg_step-end c = sym c.loop-w.invariant.finds.full
+pub loop-f-preserved-then-is_reg : goal.loop-f-preserved-then-is_reg
+loop-f-preserved-then-is_reg c =
+    regs_entered _ _ _ _ _ _ _ c.loop-f.invariant c.in-Some.ensures.steps (search rules) (sym c.is_reg.ensures ∙ c.if-is_reg.true) _ _ c.enter.ensures
 
-pub reg_step-w-requires : goal.reg_step-w-requires
-reg_step-w-requires c = (c.loop-w-test.true, c.loop-w.invariant.few)
-
-pub loop-w-smaller : goal.loop-w-smaller
-loop-w-smaller c = omega (arith, c.reg_step-w.ensures.on, c.reg_step-w.ensures.within)
-
-pub loop-w-preserved : goal.loop-w-preserved
-loop-w-preserved c = regs_moved _ _ _ _ _ _ _ _ _ c.loop-w.invariant (c.reg_step-w.auto.out) c.reg_step-w.ensures
-
-pub shape_of-out : goal.shape_of-out
-shape_of-out c = c.loop-w.invariant.long
+pub loop-f-preserved : goal.loop-f-preserved
+loop-f-preserved c = elim c.else-not-f.branch [
+  | else-not-f-via-then-not-f+else-is_reg w ↦ regs_other _ _ _ _ _ _ _ c.loop-f.invariant c.in-Some.ensures.steps w.if-not-f.true (sym w.is_reg.ensures ∙ w.if-is_reg.false)
+  | else-not-f-via-else-not-f w ↦ regs_inside _ _ _ _ _ _ _ c.loop-f.invariant c.in-Some.ensures.steps w.if-not-f.false
+]
 
 pub returns : goal.returns
-returns c = regs_done _ _ _ _ _ _ c.loop-w.invariant c.loop-w-test.false
+returns c = regs_done _ _ _ _ _ _ c.loop-f.invariant c.in-None.ensures.steps

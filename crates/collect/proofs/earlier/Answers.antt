@@ -1,18 +1,11 @@
-use borrow.Author.Rules.{rules}
-use mathlib.Core.Path.{refl}
-use Rattle.collect.proofs.Names.{back_hit, back_miss, back_end}
+use Rattle.collect.proofs.Names.{met_hit, met_miss, met_all}
 use Rattle.collect.proofs.earlier.Goals as goal
 
-pub loop-i-init : goal.loop-i-init
-loop-i-init c = (search rules, refl)
+pub loop-n-preserved-then-n-x : goal.loop-n-preserved-then-n-x
+loop-n-preserved-then-n-x c = met_hit _ _ _ _ _ _ c.loop-n.invariant c.in-Some.ensures.steps c.if-n-x.true
 
-pub returns-then-name-x : goal.returns-then-name-x
-returns-then-name-x c =
-    back_hit _ _ _ _ c.loop-i-test.true _ refl _ c.name.ensures c.if-name-x.true _ c.four_at.ensures _ (c.loop-i.invariant.1)
-
-pub loop-i-preserved : goal.loop-i-preserved
-loop-i-preserved c =
-    (search rules, back_miss _ _ _ _ c.loop-i-test.true _ refl _ c.name.ensures c.if-name-x.false _ (c.loop-i.invariant.1))
+pub loop-n-preserved : goal.loop-n-preserved
+loop-n-preserved c = met_miss _ _ _ _ _ _ c.loop-n.invariant c.in-Some.ensures.steps c.if-n-x.false
 
 pub returns : goal.returns
-returns c = back_end _ _ _ _ c.loop-i-test.false _ (c.loop-i.invariant.1)
+returns c = met_all _ _ _ _ c.loop-n.invariant (c.in-None.ensures.steps.0)

@@ -1,8 +1,6 @@
-use Rattle.collect.proofs.Names.{again_none, again_row}
+use Rattle.rules.specs.Errors.{error_field}
+use Rattle.output.specs.Writers.{puts_none}
 use Rattle.collect.proofs.tell_again.Goals as goal
 
-pub returns-in-Nothing : goal.returns-in-Nothing
-returns-in-Nothing c = search again_none
-
-pub returns-in-Row : goal.returns-in-Row
-returns-in-Row c = search again_row
+pub returns-in_default : goal.returns-in_default
+returns-in_default c = rw c.in_default.is (puts_none error_field _)

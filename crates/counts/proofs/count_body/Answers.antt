@@ -1,23 +1,17 @@
-use borrow.Author.Rules.{rules}
-use mathlib.Core.Path.{refl}
 use native.Mathlib.Omega.{arith}
+use Rattle.views.specs.Fields.{head, none_left}
 use Rattle.counts.proofs.Turns.{capped_turn, capped_end}
 use Rattle.counts.proofs.Walks.{body_turn, body_over, body_done}
 use Rattle.counts.proofs.count_body.Goals as goal
 
-pub loop-at-init : goal.loop-at-init
-loop-at-init c = (search rules, omega arith)
+pub returns-then-f-eq6 : goal.returns-then-f-eq6
+returns-then-f-eq6 c =
+    capped_end _ _ _ (c.loop-f.invariant.0) (c.loop-f.invariant.1) (rw (head _ _ _ c.in-Some.ensures.steps) (body_over _ _ _ _ _ _ c.if-f-eq6.true))
 
-pub returns-then-tag-eq6 : goal.returns-then-tag-eq6
-returns-then-tag-eq6 c =
-    capped_end _ _ _ (c.loop-at.invariant.0) (c.loop-at.invariant.1) (body_over _ _ _ _ _ c.loop-at-test.true _ c.byte_at-tag.ensures _ refl _ refl c.if-tag-eq6.true)
-
-pub loop-at-smaller : goal.loop-at-smaller
-loop-at-smaller c = omega (arith, c.next-at.ensures)
-
-pub loop-at-preserved : goal.loop-at-preserved
-loop-at-preserved c =
-    (omega (arith, c.capped-n.ensures), capped_turn _ _ _ _ _ _ _ (c.loop-at.invariant.1) c.count_field.ensures c.capped-n.ensures (body_turn _ _ _ _ _ c.loop-at-test.true _ c.byte_at-tag.ensures _ c.load.ensures _ c.next-at.ensures c.if-tag-eq6.false))
+pub loop-f-preserved : goal.loop-f-preserved
+loop-f-preserved c =
+    let s = c.in-Some.ensures.steps in
+    (omega (arith, c.capped-n.ensures), capped_turn _ _ _ _ _ _ _ (c.loop-f.invariant.1) c.field.ensures c.capped-n.ensures (rw (head _ _ _ s) (body_turn _ _ _ _ _ _ c.if-f-eq6.false)))
 
 pub returns : goal.returns
-returns c = capped_end _ _ _ (c.loop-at.invariant.0) (c.loop-at.invariant.1) (body_done _ _ _ _ _ c.loop-at-test.false)
+returns c = capped_end _ _ _ (c.loop-f.invariant.0) (c.loop-f.invariant.1) (rw (none_left _ _ c.in-None.ensures.steps) (body_done _ _ _))

@@ -1,12 +1,10 @@
 use mathlib.Core.Path.{◌≡◌}
-use Prim.Native.Nat.{◌-◌, ◌≤◌}
+use Prim.Native.Nat.{◌≤◌}
 use lib.ListN.{length}
+use Rattle.views.specs.Fields.{opened}
 use Rattle.counts.proofs.Walks.{Entered}
 use Rattle.counts.proofs.fill_places.Given as goal
 
-abbrev pub invariant-loop-at : goal.invariant-loop-at
-invariant-loop-at l =
-    (length l.places ≡ length l.initial.places) × (l.k ≤ l.at) × (l.at ≤ length l.img) × Entered l.img l.inside l.at l.places l.k
-
-abbrev pub decreases-loop-at : goal.decreases-loop-at
-decreases-loop-at l = length l.img - l.at
+abbrev pub invariant-loop-f : goal.invariant-loop-f
+invariant-loop-f l =
+    (length l.places ≡ length l.initial.places) × (l.k ≤ l.f-iterator.at) × (l.f-iterator.img.now ≡ l.img) × Entered l.img (opened l.f-iterator) l.places l.k

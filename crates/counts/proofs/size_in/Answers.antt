@@ -1,8 +1,6 @@
-use Rattle.counts.proofs.Laws.{size_laws}
+use mathlib.Core.Path.{◌∙◌}
+use Rattle.counts.proofs.Laws.{size_or_one}
 use Rattle.counts.proofs.size_in.Goals as goal
 
-pub returns-in-Known : goal.returns-in-Known
-returns-in-Known c = search size_laws
-
-pub returns-in-Unknown : goal.returns-in-Unknown
-returns-in-Unknown c = search size_laws
+pub returns : goal.returns
+returns c = c.unwrap_or.ensures ∙ size_or_one _ _ _ _ c.size_of.ensures

@@ -1,7 +1,8 @@
-use mathlib.Core.Path.{refl}
-use Rattle.entries.proofs.Laws.{opaque_as}
+use Rattle.rules.specs.Run.{entry_field}
+use Rattle.output.specs.Writers.{writes_then, field_then, field_same, puts_one}
+use Rattle.entries.proofs.Laws.{opaque_field}
 use Rattle.entries.proofs.opaque_call.Goals as goal
 
 pub returns : goal.returns
 returns c =
-    opaque_as _ _ _ _ _ _ _ _ _ _ _ _ refl c.put_head-a.ensures c.put2-b.ensures c.put_row-at.ensures c.one_more.ensures
+    puts_one entry_field _ (field_same (field_then c.put_head.ensures (writes_then c.put2.ensures c.put_row.ensures)) (opaque_field _ _))

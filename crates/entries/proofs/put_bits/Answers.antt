@@ -1,6 +1,5 @@
-use mathlib.Core.Path.{refl}
-use Rattle.output.specs.Bytes.{wrote_3}
+use Rattle.output.specs.Writers.{field_then}
 use Rattle.entries.proofs.put_bits.Goals as goal
 
 pub returns : goal.returns
-returns c = wrote_3 c.put_head-a.ensures c.put4-b.ensures c.put4.ensures refl
+returns c = field_then (field_then c.put_head.ensures c.put4.ensures) c.put4-2.ensures

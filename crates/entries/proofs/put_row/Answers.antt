@@ -1,13 +1,8 @@
-use mathlib.Core.Path.{refl, ◌∙◌}
-use Rattle.entries.proofs.Laws.{left_less, left_none}
+use Rattle.entries.proofs.Laws.{row_none, row_more}
 use Rattle.entries.proofs.put_row.Goals as goal
 
-pub loop-i-init : goal.loop-i-init
-loop-i-init c = (refl, λ o' q w. w)
+pub loop-bit-init : goal.loop-bit-init
+loop-bit-init c = row_none _
 
-pub loop-i-preserved : goal.loop-i-preserved
-loop-i-preserved c =
-    (c.put4-at.auto.out ∙ c.loop-i.invariant.0, left_less _ _ _ _ _ _ _ _ c.loop-i-test.true (c.loop-i.invariant.1) c.put4-at.ensures)
-
-pub returns : goal.returns
-returns c = left_none _ _ _ _ _ _ c.loop-i-test.false (c.loop-i.invariant.1)
+pub loop-bit-preserved : goal.loop-bit-preserved
+loop-bit-preserved c = row_more _ _ c.loop-bit-test.true c.loop-bit.invariant c.put4.ensures

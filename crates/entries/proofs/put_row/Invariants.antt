@@ -1,12 +1,7 @@
-use mathlib.Core.Path.{◌≡◌}
-use Prim.Native.Nat.{◌-◌}
-use lib.ListN.{length}
-use Rattle.entries.proofs.Laws.{Left}
+use Rattle.std.proofs.Common.{take}
+use Rattle.rules.specs.Run.{bits_bytes}
+use Rattle.output.specs.Writers.{Writes}
 use Rattle.entries.proofs.put_row.Given as goal
 
-abbrev pub invariant-loop-i : goal.invariant-loop-i
-invariant-loop-i l =
-    (length l.out ≡ length l.initial.out) × Left l.bits l.initial.out l.initial.at l.out l.at l.i
-
-abbrev pub decreases-loop-i : goal.decreases-loop-i
-decreases-loop-i l = length l.bits - l.i
+abbrev pub invariant-loop-bit : goal.invariant-loop-bit
+invariant-loop-bit l = Writes l.initial.w (bits_bytes (take l.bit-index l.bits)) l.w

@@ -2,9 +2,8 @@ use native.Mathlib.Omega.{arith}
 use Rattle.expand.proofs.Exits.{lay_room, lay_done}
 use Rattle.expand.proofs.lay_run.Goals as goal
 
-pub returns-then-out-w : goal.returns-then-out-w
-returns-then-out-w c = lay_room _ _ _ _ _ _ c.fill_starts.ensures _ _ _ _ _ c.run_top-w.ensures c.if-out-w.true
+pub returns-then-out-bytes : goal.returns-then-out-bytes
+returns-then-out-bytes c = lay_room c.args.program _ _ c.fill_starts.ensures _ _ _ _ _ c.write-items.ensures c.if-out-bytes.true
 
 pub returns : goal.returns
-returns c =
-    lay_done _ _ _ _ _ _ c.fill_starts.ensures _ _ _ _ _ c.run_top-w.ensures c.if-out-w.false (omega (arith, c.well_formed)) _ _ c.run_top-r.ensures
+returns c = lay_done c.args.program _ _ c.fill_starts.ensures _ _ _ _ _ c.write-items.ensures c.if-out-bytes.false (omega (arith, c.well_formed)) _ _ c.write-items-2.ensures

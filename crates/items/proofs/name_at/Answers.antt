@@ -1,15 +1,11 @@
-use borrow.Author.Rules.{rules}
+use Rattle.items.specs.Ends.{read_laws}
 use Rattle.rules.specs.Items.{name}
 use Rattle.items.proofs.name_at.Goals as goal
 
-pub two-requires : goal.two-requires
+pub returns-in_err-two : goal.returns-in_err-two
 unfolding name
-two-requires c = search rules
-
-pub below-requires : goal.below-requires
-unfolding name
-below-requires c = search rules
+returns-in_err-two c = search (read_laws, c.in_err-two.was)
 
 pub returns : goal.returns
 unfolding name
-returns c = rw (← c.two.ensures) c.below.ensures
+returns c = search (read_laws, c.in_ok-two.was)

@@ -1,15 +1,11 @@
-use borrow.Author.Rules.{rules}
+use Rattle.items.specs.Ends.{read_laws}
 use Rattle.rules.specs.Items.{opcode}
 use Rattle.items.proofs.opcode_at.Goals as goal
 
-pub one-requires : goal.one-requires
+pub returns-in_err-one : goal.returns-in_err-one
 unfolding opcode
-one-requires c = search rules
-
-pub below-requires : goal.below-requires
-unfolding opcode
-below-requires c = search rules
+returns-in_err-one c = search (read_laws, c.in_err-one.was)
 
 pub returns : goal.returns
 unfolding opcode
-returns c = rw (← c.one.ensures) c.below.ensures
+returns c = search (read_laws, c.in_ok-one.was)

@@ -1,23 +1,16 @@
-use mathlib.Core.Path.{refl, ◌∙◌}
-use native.Mathlib.Omega.{arith}
-use Rattle.rules.specs.Errors.{error_field}
-use Rattle.output.specs.Sinks.{owes_all, owes_none}
-use Rattle.passes.proofs.Turns.{defs_end, defs_moved}
+use Rattle.passes.proofs.Turns.{def_inside, def_body, def_other, defs_done}
+use Rattle.passes.proofs.check_defs.Goals.{else-not-f-via-then-not-f+else-then_inside, else-not-f-via-else-not-f}
 use Rattle.passes.proofs.check_defs.Goals as goal
 
-pub loop-w-init : goal.loop-w-init
-loop-w-init c = (refl, λ gs heads. owes_all error_field _ _ _)
+pub loop-f-preserved-then-then_inside : goal.loop-f-preserved-then-then_inside
+loop-f-preserved-then-then_inside c =
+    def_body _ _ _ _ _ _ _ c.loop-f.invariant c.in-Some.ensures.steps c.if-not-f.true _ c.then_inside.ensures c.if-then_inside.true _ c.check_def.ensures
 
-pub def_step-w-requires : goal.def_step-w-requires
-def_step-w-requires c = c.loop-w-test.true
-
-pub loop-w-smaller : goal.loop-w-smaller
-loop-w-smaller c = omega (arith, c.def_step-w.ensures.on, c.def_step-w.ensures.within)
-
-pub loop-w-preserved : goal.loop-w-preserved
-loop-w-preserved c =
-    (c.def_step-w.auto.out ∙ c.loop-w.invariant.0, defs_moved _ _ _ _ _ _ _ _ _ _ (c.loop-w.invariant.1) c.def_step-w.ensures)
+pub loop-f-preserved : goal.loop-f-preserved
+loop-f-preserved c = elim c.else-not-f.branch [
+  | else-not-f-via-then-not-f+else-then_inside w ↦ def_other _ _ _ _ _ _ _ c.loop-f.invariant c.in-Some.ensures.steps w.if-not-f.true _ w.then_inside.ensures w.if-then_inside.false
+  | else-not-f-via-else-not-f w ↦ def_inside _ _ _ _ _ _ _ c.loop-f.invariant c.in-Some.ensures.steps w.if-not-f.false
+]
 
 pub returns : goal.returns
-returns c =
-    record { said = λ gs heads. owes_none error_field (c.loop-w.invariant.1 gs heads) (defs_end _ _ _ _ c.loop-w-test.false) }
+returns c = defs_done _ _ _ _ _ _ c.loop-f.invariant c.in-None.ensures.steps

@@ -1,22 +1,17 @@
-use mathlib.Core.Path.{refl, ◌∙◌}
-use native.Mathlib.Omega.{arith}
-use Rattle.rules.specs.Errors.{error_field}
-use Rattle.output.specs.Sinks.{owes_all, owes_none}
-use Rattle.passes.proofs.Turns.{tops_end, moved}
+use mathlib.Core.Path.{sym, ◌∙◌}
+use Rattle.passes.proofs.Turns.{top_inside, top_other, top_stmt, tops_done}
+use Rattle.passes.proofs.check_gates.Goals.{else-not-f-via-then-not-f+else-is_stmt, else-not-f-via-else-not-f}
 use Rattle.passes.proofs.check_gates.Goals as goal
 
-pub loop-w-init : goal.loop-w-init
-loop-w-init c = (refl, owes_all error_field _ _ _)
+pub loop-f-preserved-then-is_stmt : goal.loop-f-preserved-then-is_stmt
+loop-f-preserved-then-is_stmt c =
+    top_stmt _ _ _ _ _ _ _ _ c.in-Some.ensures.steps c.loop-f.invariant c.if-not-f.true (sym c.is_stmt.ensures ∙ c.if-is_stmt.true) _ _ c.check_stmt.ensures
 
-pub top_step-w-requires : goal.top_step-w-requires
-top_step-w-requires c = c.loop-w-test.true
-
-pub loop-w-smaller : goal.loop-w-smaller
-loop-w-smaller c = omega (arith, c.top_step-w.ensures.on, c.top_step-w.ensures.within)
-
-pub loop-w-preserved : goal.loop-w-preserved
-loop-w-preserved c =
-    (c.top_step-w.auto.out ∙ c.loop-w.invariant.0, moved _ _ _ _ _ _ _ _ _ _ _ (c.loop-w.invariant.1) c.top_step-w.ensures)
+pub loop-f-preserved : goal.loop-f-preserved
+loop-f-preserved c = elim c.else-not-f.branch [
+  | else-not-f-via-then-not-f+else-is_stmt w ↦ top_other _ _ _ _ _ _ _ _ c.in-Some.ensures.steps c.loop-f.invariant w.if-not-f.true (sym w.is_stmt.ensures ∙ w.if-is_stmt.false)
+  | else-not-f-via-else-not-f w ↦ top_inside _ _ _ _ _ _ _ _ c.in-Some.ensures.steps c.loop-f.invariant w.if-not-f.false
+]
 
 pub returns : goal.returns
-returns c = owes_none error_field (c.loop-w.invariant.1) (tops_end _ _ _ _ c.loop-w-test.false)
+returns c = tops_done _ _ _ _ _ _ c.loop-f.invariant c.in_default.ensures.steps

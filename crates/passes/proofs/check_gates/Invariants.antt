@@ -1,16 +1,6 @@
-use mathlib.Core.Path.{◌≡◌}
-use mathlib.Core.Bool.{false}
-use Prim.Native.Nat.{◌-◌}
-use lib.ListN.{length}
-use Rattle.rules.specs.Errors.{error_field}
-use Rattle.output.specs.Sinks.{Owes}
 use Rattle.tables.specs.Tables.{scope_in}
-use Rattle.passes.proofs.Turns.{tops}
+use Rattle.passes.proofs.Turns.{TopsOwed}
 use Rattle.passes.proofs.check_gates.Given as goal
 
-abbrev pub invariant-loop-w : goal.invariant-loop-w
-invariant-loop-w l =
-    (length l.out ≡ length l.initial.out) × Owes error_field l.initial.out l.initial.w.sink (tops (scope_in l.gates l.regs) l.img false 0) l.out l.w.sink (tops (scope_in l.gates l.regs) l.img l.w.inside l.w.next)
-
-abbrev pub decreases-loop-w : goal.decreases-loop-w
-decreases-loop-w l = length l.img - l.w.next
+abbrev pub invariant-loop-f : goal.invariant-loop-f
+invariant-loop-f l = TopsOwed (scope_in l.scope.gates.now l.scope.regs.now) l.img l.initial.w l.fields l.w

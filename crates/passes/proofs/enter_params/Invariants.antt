@@ -1,10 +1,6 @@
-use Rattle.views.specs.View.{named_in, row_in}
+use Rattle.views.specs.Items.{names_left}
 use Rattle.passes.proofs.Scopes.{ParamsLeft}
 use Rattle.passes.proofs.enter_params.Given as goal
 
-abbrev pub invariant-loop-left : goal.invariant-loop-left
-invariant-loop-left l =
-    ParamsLeft l.initial.t (row_in named_in 6 l.k l.p l.from) l.t (row_in named_in 6 l.left l.p l.at)
-
-abbrev pub decreases-loop-left : goal.decreases-loop-left
-decreases-loop-left l = l.left
+abbrev pub invariant-loop-p : goal.invariant-loop-p
+invariant-loop-p l = ParamsLeft l.initial.t (names_left l.params) l.t (names_left l.p-iterator)

@@ -1,6 +1,7 @@
-use Rattle.pesukoymi.proofs.Laying.{answer_laid}
+use Rattle.std.proofs.Common.{ap}
+use Rattle.pesukoymi.proofs.Laying.{answer_put}
 use Rattle.pesukoymi.proofs.put_answer.Goals as goal
 
 pub returns : goal.returns
 returns c =
-    answer_laid _ _ _ _ _ _ _ _ _ _ _ c.number_of.ensures c.first_of.ensures c.second_of.ensures c.put8-n.ensures c.put8-m.ensures c.put8.ensures
+    answer_put _ _ _ _ _ _ _ _ c.from.ensures (ap (λ v. v.0) c.values_of-first.ensures) (ap (λ v. v.1) c.values_of-first.ensures) c.put8.ensures c.put8-2.ensures c.put8-3.ensures

@@ -1,0 +1,7 @@
+use Rattle.std.proofs.Common.{rules, sym, ◌∙◌}
+use Rattle.rules.specs.Items.{end, named}
+use Rattle.items.specs.Ends.{times_ends}
+use Rattle.items.proofs.nameds_end.Goals as goal
+
+pub returns : goal.returns
+returns c = c.many.ensures (λ m. end (named c.args.names c.args.s.now m)) (λ m r l h. search rules) ∙ sym (times_ends (named c.args.names) c.args.s.now c.args.count c.args.at)
