@@ -1,5 +1,5 @@
 -- What the operand rule leaves, told back, and what two operands come to.
-use Rattle.std.specs.Prelude.{Some, None}
+use Rattle.std.specs.Prelude.{None}
 use mathlib.Core.Path.{◌≡◌, refl, sym, ap, ◌∙◌}
 use mathlib.Core.List.{List, [], ◌∷◌, ◌++◌, append-nil}
 use Prim.Native.Nat.{ℕ}
@@ -15,10 +15,6 @@ use Rattle.asserts.specs.Sizes.{size_left}
 pub left_bad : (z : Sized) → None ≡ size_left z → (e : Error) × (z ≡ bad e)
 left_bad (size n) p = let q : ◌≡◌ {A = ℕ} 0 1 = cc in absurd (omega arith)
 left_bad (bad e) p = (e, refl)
-
-pub left_size : (z : Sized) (n : ℕ) → Some n ≡ size_left z → z ≡ size n
-left_size (size m) n p = let q : m ≡ n = cc in ap size q
-left_size (bad e) n p = let q : ◌≡◌ {A = ℕ} 0 1 = cc in absurd (omega arith)
 
 module _ (t : List ℕ) (stmt : ℕ) (qa qb : Asked) {m₁ m₂ : Match} {w w₁ w₂ : Writer} where
   pub match_pair : m₁ ≡ fixed unfixed (assert_reg (reg_in t) stmt qa) qa.operand.span → Says w (differs m₁ stmt (assert_reg (reg_in t) stmt qa) qa.operand.span) w₁

@@ -161,9 +161,6 @@ pub record Entered (img : List ℕ) (ds : List Decl) (places : List ℕ) (k : �
   pub count : length before ≡ k
   pub have : Placed img before places
 
-pub entered_none : (img places : List ℕ) → Entered img (decls false false (rest img 0)) places 0
-entered_none img places = record { before = []; all = refl; count = refl; have = record { at = λ i h l. absurd (omega arith) } }
-
 pub entered_all : (img : List ℕ) (ds : List Decl) (places : List ℕ) (k : ℕ) → ds ≡ [] → Entered img ds places k → Placed img (gate_list (decls false false (rest img 0))) places
 unfolding gate_list
 entered_all img ds places k d e = subst (λ (gs : List Gate). Placed img gs places) (sym (append-nil e.before) ∙ (rw d at e.all)) e.have

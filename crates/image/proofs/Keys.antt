@@ -1,15 +1,13 @@
--- The key of a name, word by word; and the keys and marks of a table after a field.
+-- The key of a name, word by word; and that of a field.
 use Prim.Native.Nat.{ℕ, suc, ◌+◌, ◌-◌, ◌*◌, ◌/◌, ◌%◌, ◌<◌, ◌≤◌, min}
 use native.Mathlib.Omega.{arith}
-use native.Mathlib.Decide.{ℕ_discrete}
-use mathlib.Core.Path.{◌≡◌, refl, subst, ◌∙◌}
+use mathlib.Core.Path.{◌≡◌, refl, subst}
 use mathlib.Core.List.{List}
 use borrow.Author.Tests.{ne_eqb}
-use lib.ListN.{length, get_or, set, length-set}
-use lib.Seq.{get_or-set_same, get_or-set_other}
+use lib.ListN.{length, get_or}
 use Rattle.rules.specs.Items.{le8}
 use Rattle.rules.specs.Reading.{load_at}
-use Rattle.image.specs.Table.{stirred, folded, key_of, key_at, slot_of, Keyed, Marked}
+use Rattle.image.specs.Table.{stirred, folded, key_of, key_at, slot_of}
 
 -- ---- a key
 
@@ -32,10 +30,6 @@ pub slot_is : (k x y : ℕ) → x ≡ stirred (k % 4294967296) (k / 4294967296) 
 unfolding slot_of
 slot_is k x y e f = rw (f, e)
 
-slot_small : (k : ℕ) → slot_of k < 8192
-unfolding slot_of stirred
-slot_small k = omega arith
-
 -- ---- the key of a field
 
 module _ (img : List ℕ) (at t k : ℕ) (p : List ℕ) (et : t ≡ get_or img at 0) (ep : p ≡ load_at img at) where
@@ -50,49 +44,3 @@ module _ (img : List ℕ) (at t k : ℕ) (p : List ℕ) (et : t ≡ get_or img a
 pub key_none : (img : List ℕ) (at t : ℕ) → t ≡ get_or img at 0 → (t ≡ 1 → ⊥) → 0 ≡ key_at img at
 unfolding key_at
 key_none img at t et h = rw (← et, ne_eqb t 1 h)
-
--- ---- the table
-
-pub keyed_none : (img places keys marks : List ℕ) → length places ≡ 512 → length keys ≡ 512 → length marks ≡ 8192
-    → Keyed img places keys 0 × Marked keys marks 0
-keyed_none img places keys marks p k m = (
-  record { few = omega arith; long = p; rows = k; keyed = λ i h. absurd (omega arith) },
-  record { slots = m; marked = λ i h. absurd (omega arith) },
-)
-
-module _ (img places keys marks : List ℕ) (n at k : ℕ) (w : Keyed img places keys n) (v : Marked keys marks n) where
-  module _ (room : n < 512) (e : k ≡ key_of (load_at img at)) where
-    in_places : n < length places
-    in_places = omega (arith, w.long)
-
-    in_keys : n < length keys
-    in_keys = omega (arith, w.rows)
-
-    pub grown_keys : Keyed img (set places n at) (set keys n k) (n + 1)
-    grown_keys = record {
-      few = omega arith;
-      long = length-set places n at ∙ w.long;
-      rows = length-set keys n k ∙ w.rows;
-      keyed = λ i h. elim (ℕ_discrete i n) [
-        | yes q ↦ rw (q, get_or-set_same keys n k 0 in_keys, get_or-set_same places n at 0 in_places) e
-        | Dec.no q ↦ rw (get_or-set_other keys n i k 0 q, get_or-set_other places n i at 0 q) (w.keyed i (omega arith))
-      ];
-    }
-
-    in_marks : slot_of k < length marks
-    in_marks = omega (arith, v.slots, slot_small k)
-
-    kept : (j : ℕ) → get_or marks j 0 ≡ 1 → get_or (set marks (slot_of k) 1) j 0 ≡ 1
-    kept j h = elim (ℕ_discrete j (slot_of k)) [
-      | yes q ↦ rw (q, get_or-set_same marks (slot_of k) 1 0 in_marks)
-      | Dec.no q ↦ rw (get_or-set_other marks (slot_of k) j 1 0 q) h
-    ]
-
-    pub grown_marks : Marked (set keys n k) (set marks (slot_of k) 1) (n + 1)
-    grown_marks = record {
-      slots = length-set marks (slot_of k) 1 ∙ v.slots;
-      marked = λ i h. elim (ℕ_discrete i n) [
-        | yes q ↦ rw (q, get_or-set_same keys n k 0 in_keys, get_or-set_same marks (slot_of k) 1 0 in_marks)
-        | Dec.no q ↦ rw (get_or-set_other keys n i k 0 q) (kept _ (v.marked i (omega arith)))
-      ];
-    }

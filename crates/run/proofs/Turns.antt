@@ -19,7 +19,7 @@ use Rattle.views.specs.Rows.{operand_ends, row_length}
 use Rattle.views.specs.Items.{operands_left}
 use Rattle.views.specs.declared.Row.{Row}
 use Rattle.output.specs.declared.Writer.{Writer}
-use Rattle.output.specs.Writers.{Puts, Owes, owes_same, owes_less, owes_none}
+use Rattle.output.specs.Writers.{Puts, Owes, owes_less, owes_none}
 use Rattle.counts.specs.Sums.{size_in}
 use Rattle.run.specs.Lines.{start_in, lane_of, lanes_in, turn_list, frame_fill, full, sees, seen}
 
@@ -30,9 +30,6 @@ abbrev pub Turned : (f : ℕ → List Entry) (n j : ℕ) → (w₀ w : Writer) �
 Turned f n j w₀ w = Owes entry_field w₀ (turn_list n 0 f) w (turn_list (n - j) j f)
 
 module _ (f : ℕ → List Entry) (n : ℕ) where
-  pub turned_start : (w : Writer) → Turned f n 0 w w
-  turned_start w = owes_same entry_field w (let e : n - 0 ≡ n = omega arith in rw e refl)
-
   turns_more : (j : ℕ) → j < n → turn_list (n - j) j f ≡ f j ++ turn_list (n - (j + 1)) (j + 1) f
   unfolding turn_list
   turns_more j l = let e : n - j ≡ suc (n - (j + 1)) = omega arith in rw (e, add-one j) refl

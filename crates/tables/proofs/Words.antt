@@ -7,13 +7,10 @@ use Prim.Native.Nat.{ℕ, suc, ◌+◌, ◌-◌, ◌*◌, ◌<◌, ◌≤◌}
 use native.Mathlib.Omega.{arith}
 use native.Mathlib.Numerals.{add-one}
 use borrow.Author.Tests.{eq-eqb, ne_eqb, lt-ltb, le-ltb}
-use lib.ListN.{length, get_or, set, get_or-eq_default}
+use lib.ListN.{length, set}
 use lib.Seq.{sets, set_out}
 use lib.Dec.{eqb}
 use Rattle.tables.specs.Tables.{word, gate_in, reg_in, param_in, row_set, param_set}
-
-pub word_past : (t : List ℕ) (i : ℕ) → length t ≤ i → ◌≡◌ {A = ℕ} 0 (get_or t i 0)
-word_past t i h = sym (get_or-eq_default t 0 h)
 
 module _ (t : List ℕ) (x : ℕ) (h : 512 ≤ x) where
   pub gate_far : None ≡ gate_in t x
