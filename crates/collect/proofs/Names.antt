@@ -1,9 +1,11 @@
 -- Repeated names: what the searches and the loops give.
-use Rattle.std.specs.Prelude.{Option, Some}
+use Rattle.std.specs.Prelude.{Option, None, Some}
 use mathlib.Core.Path.{◌≡◌, refl, sym, ap, ◌∙◌}
 use mathlib.Core.List.{List, [], ◌∷◌, ◌++◌, map, map-append}
-use Prim.Native.Nat.{ℕ, zero, suc, ◌+◌, ◌<◌, ◌≤◌}
+use mathlib.Core.Bool.{false}
+use Prim.Native.Nat.{ℕ, zero, suc, ◌+◌, ◌-◌, ◌*◌, ◌<◌, ◌≤◌}
 use native.Mathlib.Omega.{arith}
+use native.Mathlib.Nat.{mul-suc}
 use native.Mathlib.Numerals.{add-one}
 use borrow.Author.Tests.{eq-eqb, ne_eqb}
 use lib.Dec.{eqb}
@@ -12,32 +14,53 @@ use Rattle.rules.specs.declared.Named.{Named}
 use Rattle.rules.specs.declared.Operand.{Operand}
 use Rattle.rules.specs.declared.Reg.{Reg}
 use Rattle.rules.specs.Basics.{pick}
+use Rattle.rules.specs.Items.{le4}
 use Rattle.rules.specs.Errors.{Error, error_field, zero_size_register}
-use Rattle.rules.specs.Checking.{argument, later, latest, repeated, repeats, size_of, redeclared}
+use Rattle.rules.specs.Checking.{argument, latest, repeated, repeats, size_of, redeclared}
 use Rattle.views.specs.declared.Row.{Row}
-use Rattle.views.specs.View.{named_in, row_in}
+use Rattle.views.specs.View.{name_in, named_in, row_in}
 use Rattle.views.specs.Rows.{named_ends, row_length, row_take}
 use Rattle.views.specs.Items.{names_left}
 use Rattle.output.specs.declared.Writer.{Writer}
 use Rattle.output.specs.Writers.{Says, puts_then}
-use Rattle.tables.specs.Later.{later_more}
+use Rattle.theorems.specs.Rows.{latest_snoc}
 use Rattle.collect.specs.Collected.{reg_errors_by}
 
--- a search that goes on, where l is left and f is the latest that was met
-module _ (a f : Option Reg) (l rest : List Named) (n : Named) (x : ℕ) (h : a ≡ later (latest (map argument l) x) f) (e : l ≡ n ∷ rest) where
-  met : a ≡ later (latest (map argument rest) x) (pick (eqb n.name x) (Some (argument n)) f)
-  unfolding latest
-  met = h ∙ (rw e (later_more (latest (map argument rest) x) (eqb n.name x) (argument n) f))
+row_snoc : (k : ℕ) (p : List ℕ) (at : ℕ) → row_in named_in 6 (suc k) p at ≡ row_in named_in 6 k p at ++ (named_in p (at + 6 * k) ∷ [])
+unfolding row_in
+row_snoc zero p at = let e : at ≡ at + 6 * 0 = omega arith in ap (λ (n : ℕ). named_in p n ∷ []) e
+row_snoc (suc k) p at =
+    let e : at + 6 + 6 * k ≡ at + 6 * suc k = omega (arith, mul-suc 6 k) in
+    ap (λ l. named_in p at ∷ l) (row_snoc k p (at + 6) ∙ ap (λ (n : ℕ). row_in named_in 6 k p (at + 6) ++ (named_in p n ∷ [])) e)
 
-  pub met_hit : n.name ≡ x → a ≡ later (latest (map argument rest) x) (Some (argument n))
-  met_hit q = met ∙ (rw (eq-eqb n.name x q) refl)
+-- the latest of the first k names of a row
+abbrev pub latest_of : (p : List ℕ) (from : ℕ) (k : ℕ) → (x : ℕ) → Option Reg
+latest_of p from k x = latest (map argument (row_in named_in 6 k p from)) x
 
-  pub met_miss : (n.name ≡ x → ⊥) → a ≡ later (latest (map argument rest) x) f
-  met_miss q = met ∙ (rw (ne_eqb n.name x q) refl)
+-- a search from the last name back, where i are left
+module _ (p : List ℕ) (from i x : ℕ) (h : 0 < i) (at : ℕ) (ea : at ≡ from + 6 * (i - 1)) (nm : ℕ) (en : nm ≡ name_in p (at + 4)) where
+  back : latest_of p from i x ≡ pick (eqb nm x) (Some (argument (named_in p at))) (latest_of p from (i - 1) x)
+  unfolding named_in
+  back =
+      let e : i ≡ suc (i - 1) = omega arith in
+      ap (λ (n : ℕ). latest_of p from n x) e
+      ∙ ap (λ l. latest (map argument l) x) (row_snoc (i - 1) p from)
+      ∙ ap (λ l. latest l x) (map-append argument (row_in named_in 6 (i - 1) p from) (named_in p (from + 6 * (i - 1)) ∷ []))
+      ∙ latest_snoc (map argument (row_in named_in 6 (i - 1) p from)) (argument (named_in p (from + 6 * (i - 1)))) x
+      ∙ (rw (← ea, en) refl)
 
-pub met_all : (a f : Option Reg) (l : List Named) (x : ℕ) → a ≡ later (latest (map argument l) x) f → l ≡ [] → f ≡ a
-unfolding latest
-met_all a f l x h e = sym (h ∙ (rw e refl))
+  pub back_hit : nm ≡ x → (sp : ℕ) → sp ≡ le4 p at → Some (record { name = x; span = sp; classical = false; size = 1 }) ≡ latest_of p from i x
+  unfolding named_in
+  back_hit q sp es =
+      let a : Some (record { name = x; span = sp; classical = false; size = 1 }) ≡ Some (argument (named_in p at)) = rw (← q, en, es) refl in
+      a ∙ sym (back ∙ (rw (eq-eqb nm x q) refl))
+
+  pub back_miss : (nm ≡ x → ⊥) → latest_of p from i x ≡ latest_of p from (i - 1) x
+  back_miss q = back ∙ (rw (ne_eqb nm x q) refl)
+
+pub back_none : (p : List ℕ) (from i x : ℕ) → i ≤ 0 → ◌≡◌ {A = Option Reg} None (latest_of p from i x)
+unfolding latest row_in
+back_none p from i x h = let e : 0 ≡ i = omega arith in ap (λ (n : ℕ). latest_of p from n x) e
 
 -- ---- registers
 

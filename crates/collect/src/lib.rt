@@ -1,7 +1,7 @@
 // The declarations of an image collected into tables by name, after typing.rs: collect_decls and collect_regs.
 #![tactic(auto)]
 
-ghost use Rattle.std.specs.Prelude.{◌≡◌, [], map, ℕ, ◌<◌, eqb};
+ghost use Rattle.std.specs.Prelude.{◌≡◌, [], map, ℕ, ◌<◌, ◌≤◌, eqb};
 ghost use Rattle.rules.specs.Errors.{Error};
 ghost use Rattle.rules.specs.Reading.{is_reg};
 ghost use Rattle.rules.specs.Checking.{argument, latest, repeats, redeclared};
@@ -88,27 +88,30 @@ pub fn collect_regs(w: &mut Writer, img: &[u8]) -> Regs
 
 // ---- headers
 
-// The latest of some names that is x, as a body would see it.
+// The latest of some names that is x, as a body would see it: from the last one back, and of each the name alone, since a row is searched anew for each
+// of its names.
 fn earlier(seen: Nameds, x: u64) -> Option<Reg>
+    requires { (seen.at ≤ 2000) × (seen.left ≤ 255) }
     ensures { result ≡ latest (map argument (names_left seen.entry)) x }
 {
-    let mut found = None;
-    for n in seen {
-        if n.name == x {
-            found = Some(Reg {
-                name: n.name,
-                span: n.span,
+    for i in (0..seen.left).rev() {
+        let at = seen.at + 6 * i as usize;
+        if name(seen.bytes, at + 4) == x {
+            return Some(Reg {
+                name: x,
+                span: four_at(seen.bytes, at),
                 classical: false,
                 size: 1,
             });
         }
     }
-    found
+    None
 }
 
 // The repeated names of a row, each told with the span of the latest one before it.
 fn tell_repeats<F: Fn(&mut Writer, Named, u64)>(w: &mut Writer, row: Nameds, tell: F)
-    requires { F.IsAlwaysCallable tell }
+    requires near { (row.at ≤ 2000) × (row.left ≤ 255) }
+    requires may { F.IsAlwaysCallable tell }
     ensures { (kind : ℕ → ℕ → ℕ → ℕ → Error) (decl : ℕ) → Tells (F.post tell) kind decl → Says w.old (repeats kind decl [] (names_left row.entry)) w.new }
 {
     let mut seen = row;

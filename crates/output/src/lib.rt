@@ -55,13 +55,16 @@ impl<'a> Writer<'a> {
         self.sink.bytes = put1(self.out, self.sink.bytes, b);
     }
 
-    // Bytes in a row.
+    // Bytes in a row. (The place is kept in hand: stored and loaded again at each byte, it would have each byte wait for the one before.)
     fn put(&mut self, bytes: &[u8])
         ensures { Writes self.old bytes.now self.new }
     {
+        let out = &mut *self.out;
+        let mut at = self.sink.bytes;
         for &b in bytes {
-            self.put1(b);
+            at = put1(out, at, b);
         }
+        self.sink.bytes = at;
     }
 
     pub fn put2(&mut self, v: u64)
@@ -82,7 +85,7 @@ impl<'a> Writer<'a> {
         self.put(&v.to_le_bytes());
     }
 
-    fn put_flag(&mut self, v: bool)
+    pub fn put_flag(&mut self, v: bool)
         ensures { Writes self.old (bit v ∷ []) self.new }
     {
         self.put1(u8::from(v));

@@ -236,6 +236,7 @@ impl<'a> Row<'a, Named> {
     pub fn params(p: &'a [u8]) -> Row<'a, Named>
         ensures row { names_left result ≡ params_in p.now }
         ensures count { result.left ≡ length (params_in p.now) }
+        ensures near { (result.at ≤ 2000) × (result.left ≤ 255) }
     {
         Named::row(p, 13, byte_at(p, 11))
     }
@@ -244,6 +245,7 @@ impl<'a> Row<'a, Named> {
     pub fn args(p: &'a [u8]) -> Row<'a, Named>
         ensures row { names_left result ≡ args_in p.now }
         ensures count { result.left ≡ length (args_in p.now) }
+        ensures near { (result.at ≤ 2000) × (result.left ≤ 255) }
     {
         Named::row(p, 13 + 6 * byte_at(p, 11) as usize, byte_at(p, 12))
     }

@@ -1,11 +1,14 @@
-use Rattle.collect.proofs.Names.{met_hit, met_miss, met_all}
+use mathlib.Core.Path.{refl, sym, ◌∙◌}
+use native.Mathlib.Omega.{arith}
+use Rattle.collect.proofs.Names.{back_hit, back_miss, back_none}
 use Rattle.collect.proofs.earlier.Goals as goal
 
-pub loop-n-preserved-then-n-x : goal.loop-n-preserved-then-n-x
-loop-n-preserved-then-n-x c = met_hit _ _ _ _ _ _ c.loop-n.invariant c.in-Some.ensures.steps c.if-n-x.true
+pub returns-then-name-x : goal.returns-then-name-x
+returns-then-name-x c =
+    back_hit _ _ _ _ c.loop-i-test.true _ refl _ (c.name.ensures.0) c.if-name-x.true _ (c.four_at.ensures.0) ∙ sym c.loop-i.invariant
 
-pub loop-n-preserved : goal.loop-n-preserved
-loop-n-preserved c = met_miss _ _ _ _ _ _ c.loop-n.invariant c.in-Some.ensures.steps c.if-n-x.false
+pub loop-i-preserved : goal.loop-i-preserved
+loop-i-preserved c = c.loop-i.invariant ∙ back_miss _ _ _ _ c.loop-i-test.true _ refl _ (c.name.ensures.0) c.if-name-x.false
 
 pub returns : goal.returns
-returns c = met_all _ _ _ _ c.loop-n.invariant (c.in-None.ensures.steps.0)
+returns c = back_none _ _ c.loop-i.i _ (omega (arith, c.loop-i-test.false)) ∙ sym c.loop-i.invariant
