@@ -69,6 +69,14 @@ module _ (k : ℕ) (t : List Set) (near : Set) (d : List ℕ) where
             (λ v h n. g v h ∙ (rw (ne_eqb i v (λ x. n (sym x))) refl)) (g i small ∙ (rw (eq-eqb i i refl, sym p ∙ far, touch ∙ e) refl))
             (get_or-set_same d₁ i (k + 1) 0 (omega (arith, S.size)) ∙ (rw (sym p ∙ far, touch ∙ e) refl))
 
+    -- of a row that meets nothing near, whether its gate is near
+    pub spread_idle : (s : Set) → s ≡ row_of t i → (c : Bool) → c ≡ any 128 (λ w. holds s w && holds near w) → c ≡ false → Spread k t near (i + 1) d d₁ r₁
+    spread_idle s f c q h = go (holds near i) refl
+      where
+        go : (b : Bool) → holds near i ≡ b → Spread k t near (i + 1) d d₁ r₁
+        go true e = spread_near true (sym e) refl
+        go false e = spread_off false (sym e) refl s f c q h
+
 -- ---- distances
 
 module _ (n : ℕ) (E : ℕ → ℕ → Bool) (within : Within n E) (g : ℕ) where

@@ -1,13 +1,13 @@
 -- What each method of a set leaves, gate by gate.
 use mathlib.Core.Path.{◌≡◌, refl, sym, ap, ap₂, ◌∙◌}
 use mathlib.Core.Bool.{Bool, false, not, ◌&&◌, ◌||◌, or_comm}
-use Prim.Native.Nat.{ℕ, ◌*◌, ◌/◌, ◌%◌, ◌^◌, ◌≤◌, ◌<◌}
+use Prim.Native.Nat.{ℕ, ◌+◌, ◌-◌, ◌*◌, ◌/◌, ◌%◌, ◌^◌, ◌≤◌, ◌<◌}
 use native.Mathlib.Nat.{one-mul, mod-eq_of_lt}
 use native.Mathlib.Decide.{ℕ_discrete, dec_lt}
 use native.Mathlib.Omega.{arith}
 use borrow.Author.Tests.{lt-ltb, le-ltb, eq-eqb, ne_eqb}
 use lib.Bits.{bit_and, bit_or}
-use lib.Pow.{pow-lt}
+use lib.Pow.{pow-lt, pow-add, shr-shr, field, mod-mod-pow}
 use lib.Dec.{eqb, ltb, not_T, T_not}
 use Rattle.rules.specs.Basics.{any}
 use Rattle.theorems.specs.Search.{and_T, T_and}
@@ -27,20 +27,46 @@ holds_out s j h = rw (le-ltb j 128 h) refl
 pub holds_empty : (j : ℕ) → holds (record { gates = 0 }) j ≡ false
 holds_empty j = elim (dec_lt j 128) [ yes h ↦ holds_in (record { gates = 0 }) j h ∙ zero_digit j | no h ↦ holds_out (record { gates = 0 }) j (omega arith) ]
 
+-- a power as the shift of one within its half
+pub power_low : (j : ℕ) → j < 64 → 1 * 2 ^ j % 18446744073709551616 ≡ 2 ^ j
+power_low j h = rw one-mul (mod-eq_of_lt (pow-lt h))
+
+pub power_high : (j : ℕ) → 64 ≤ j → j < 128 → (1 * 2 ^ (j - 64) % 18446744073709551616) * 2 ^ 64 % 340282366920938463463374607431768211456 ≡ 2 ^ j
+power_high j l h =
+    let k : j - 64 < 64 = omega arith in
+    let q : j - 64 + 64 ≡ j = omega arith in
+    let p : 2 ^ (j - 64) * 2 ^ 64 ≡ 2 ^ j = sym (pow-add 2 (j - 64) 64) ∙ ap (λ (x : ℕ). 2 ^ x) q in
+    ap (λ (x : ℕ). x * 2 ^ 64 % 340282366920938463463374607431768211456) (power_low (j - 64) k)
+    ∙ ap (λ (x : ℕ). x % 340282366920938463463374607431768211456) p
+    ∙ mod-eq_of_lt (pow-lt h)
+
 module _ (s : Set) (j : ℕ) where
-  pub contains_in : j < 128 → eqb (s.gates / 2 ^ j % 2) 1 ≡ holds s j
+  contains_in : j < 128 → eqb (s.gates / 2 ^ j % 2) 1 ≡ holds s j
   contains_in h = sym (holds_in s j h ∙ digit_shr s.gates j)
+
+  -- in the half that has digit j
+  pub contains_low : j < 64 → eqb (s.gates % 18446744073709551616 / 2 ^ j % 2) 1 ≡ holds s j
+  contains_low h =
+      let w : 63 - j + 1 + j ≡ 64 = omega arith in
+      ap (λ (k : ℕ). eqb (s.gates % 2 ^ k / 2 ^ j % 2) 1) (sym w)
+      ∙ ap (λ (x : ℕ). eqb (x % 2) 1) (field s.gates (63 - j + 1) j)
+      ∙ ap (λ (x : ℕ). eqb x 1) (mod-mod-pow (s.gates / 2 ^ j) (63 - j) 1)
+      ∙ contains_in (omega arith)
+
+  pub contains_high : 64 ≤ j → j < 128 → eqb (s.gates / 2 ^ 64 / 2 ^ (j - 64) % 2) 1 ≡ holds s j
+  contains_high l h =
+      let q : 64 + (j - 64) ≡ j = omega arith in
+      ap (λ (x : ℕ). eqb (x % 2) 1) (shr-shr s.gates 64 (j - 64) ∙ ap (λ (k : ℕ). s.gates / 2 ^ k) q) ∙ contains_in h
 
   pub contains_out : 128 ≤ j → ltb j 128 ≡ holds s j
   contains_out h = le-ltb j 128 h ∙ sym (holds_out s j h)
 
-  pub with_in : j < 128 → (k : ℕ) → k < 128 → holds (record { gates = bit_or s.gates (1 * 2 ^ j % 340282366920938463463374607431768211456) }) k ≡ (eqb j k || holds s k)
-  with_in h k l =
-      let p : 1 * 2 ^ j % 340282366920938463463374607431768211456 ≡ 2 ^ j = rw one-mul (mod-eq_of_lt (pow-lt h)) in
-      holds_in (record { gates = bit_or s.gates (1 * 2 ^ j % 340282366920938463463374607431768211456) }) k l
-      ∙ or_digit s.gates (1 * 2 ^ j % 340282366920938463463374607431768211456) k
-      ∙ or_comm (digit s.gates k) (digit (1 * 2 ^ j % 340282366920938463463374607431768211456) k)
-      ∙ ap₂ (λ (x y : Bool). x || y) (ap (λ (x : ℕ). digit x k) p ∙ one_digit j k) (sym (holds_in s k l))
+  pub with_in : j < 128 → (p : ℕ) → p ≡ 2 ^ j → (k : ℕ) → k < 128 → holds (record { gates = bit_or s.gates p }) k ≡ (eqb j k || holds s k)
+  with_in h p e k l =
+      holds_in (record { gates = bit_or s.gates p }) k l
+      ∙ or_digit s.gates p k
+      ∙ or_comm (digit s.gates k) (digit p k)
+      ∙ ap₂ (λ (x y : Bool). x || y) (ap (λ (x : ℕ). digit x k) e ∙ one_digit j k) (sym (holds_in s k l))
 
 module _ (a b : Set) where
   abbrev both : ℕ → Bool

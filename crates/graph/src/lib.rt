@@ -183,7 +183,8 @@ impl Part<'_> {
     {
         let mut r = near;
         for u in 0..self.n {
-            if !near.contains(u) && self.graph.row(u).meets(near) {
+            // (few rows meet what is near, so that is asked first)
+            if self.graph.row(u).meets(near) && !near.contains(u) {
                 away[u] = k + 1;
                 r = r.with(u);
             }

@@ -11,19 +11,28 @@ pub struct Set {
 impl Set {
     pub const EMPTY: Set = Set { gates: 0 };
 
+    // By a shift of the half that has the digit: a u64 is shifted by one instruction, a u128 by several.
     pub fn contains(self, j: usize) -> bool
         ensures { result ≡ holds self j }
     {
-        j < 128 && (self.gates >> j) % 2 == 1
+        if j < 64 {
+            return ((self.gates % 0x1_0000_0000_0000_0000) as u64 >> j) % 2 == 1;
+        }
+        j < 128 && ((self.gates >> 64) as u64 >> (j - 64)) % 2 == 1
     }
 
-    // One gate more.
+    // One gate more, by a shift within its half.
     pub fn with(self, j: usize) -> Set
         ensures { (k : ℕ) → k < 128 → holds result k ≡ (eqb j k || holds self k) }
     {
+        if j < 64 {
+            return Set {
+                gates: self.gates | (1u64 << j) as u128,
+            };
+        }
         if j < 128 {
             return Set {
-                gates: self.gates | (1 << j),
+                gates: self.gates | ((1u64 << (j - 64)) as u128) << 64,
             };
         }
         self
