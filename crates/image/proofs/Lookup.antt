@@ -16,12 +16,15 @@ use Rattle.image.specs.Table.{names_of, key_of, slot_of, Keyed, Marked}
 
 -- ---- two lists
 
-pub same_is : (x y : List ℕ) → pointwise eqb x y ≡ same_bytes x y
+same_is : (x y : List ℕ) → pointwise eqb x y ≡ same_bytes x y
 unfolding same_bytes
 same_is [] [] = refl
 same_is [] (b ∷ y) = refl
 same_is (c ∷ x) [] = refl
 same_is (c ∷ x) (b ∷ y) = ap (λ t. eqb c b && t) (same_is x y)
+
+pub same_told : (x y : List ℕ) (b : Bool) → b ≡ pointwise eqb x y → b ≡ same_bytes x y
+same_told x y b e = e ∙ same_is x y
 
 not_true_false : false ≡ true → ⊥
 not_true_false p = let z : ◌≡◌ {A = ℕ} 0 1 = cc in omega arith

@@ -62,3 +62,9 @@ pub record Keyed (img places keys : List ℕ) (n : ℕ) : Type 0 where
 pub record Marked (keys marks : List ℕ) (n : ℕ) : Type 0 where
   pub slots : length marks ≡ 8192
   pub marked : (i : ℕ) → i < n → get_or marks (slot_of (get_or keys i 0)) 0 ≡ 1
+
+-- what one more NAME at a place, with the key k, adds to them: nothing else is keyed, and nothing else is marked
+pub record Notes (at k : ℕ) (t : Names) (keys marks : List ℕ) (t' : Names) (keys' marks' : List ℕ) : Type 0 where
+  pub place : t' ≡ noted_of t 1 at
+  pub key : keys' ≡ pick (ltb t.count 512) (set keys t.count k) keys
+  pub mark : marks' ≡ pick (ltb t.count 512) (set marks (slot_of k) 1) marks

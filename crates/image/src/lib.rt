@@ -4,9 +4,9 @@
 ghost use Rattle.std.specs.Prelude.{◌≡◌, false, [], ◌&&◌, ◌+◌, ◌≤◌, ◌<◌, length, get_or, eqb, leb};
 ghost use Rattle.rules.specs.Basics.{pick};
 ghost use Rattle.rules.specs.Syntax.{cx};
-ghost use Rattle.rules.specs.Items.{end, times, operand};
+ghost use Rattle.rules.specs.Items.{bind, end, times, count, operand};
 ghost use Rattle.rules.specs.Reading.{same_bytes, among, fresh, include_field, reg_field, gate_lists, gate_field, u_field, pair_field, reset_field, barrier_field, call_lists, call_field, if_field, items, payload, is_reg, placed, within, next, load_at, field};
-ghost use Rattle.image.specs.Table.{names_of, noted_of, table, stirred, key_of, key_at, slot_of, Keyed, Marked};
+ghost use Rattle.image.specs.Table.{names_of, table, stirred, key_of, key_at, slot_of, Keyed, Marked, Notes};
 ghost use Rattle.image.specs.Whole.{closed_of, Reads};
 
 use items::{
@@ -39,7 +39,7 @@ pub struct Image {
 
 // ---- the payload of each tag: where it ends, read from a place on
 
-fn include_end(p: &[u8], at: usize, names: u64) -> Result<usize, Fault>
+pub fn include_end(p: &[u8], at: usize, names: u64) -> Result<usize, Fault>
     ensures { result ≡ end (include_field names p.now at) }
 {
     let (_, at) = span_at(p, at)?;
@@ -47,15 +47,15 @@ fn include_end(p: &[u8], at: usize, names: u64) -> Result<usize, Fault>
 }
 
 // QREG and CREG are read alike.
-fn reg_end(p: &[u8], at: usize, names: u64) -> Result<usize, Fault>
+pub fn reg_end(p: &[u8], at: usize, names: u64) -> Result<usize, Fault>
     ensures { result ≡ end (reg_field names false p.now at) }
 {
-    let (_, at) = span_at(p, at)?;
+    let (_, at) = span_at(p, at)?; // of the declaration
     operand_end(p, at, names)
 }
 
 // The two counts of a gate, then its parameters and its arguments.
-fn gate_lists_end(p: &[u8], at: usize, names: u64) -> Result<usize, Fault>
+pub fn gate_lists_end(p: &[u8], at: usize, names: u64) -> Result<usize, Fault>
     ensures { result ≡ end (gate_lists names p.now at) }
 {
     let (params, at) = count_at(p, at)?;
@@ -64,7 +64,7 @@ fn gate_lists_end(p: &[u8], at: usize, names: u64) -> Result<usize, Fault>
     nameds_end(p, at, names, args)
 }
 
-fn gate_end(p: &[u8], at: usize, names: u64) -> Result<usize, Fault>
+pub fn gate_end(p: &[u8], at: usize, names: u64) -> Result<usize, Fault>
     ensures { result ≡ end (gate_field names p.now at) }
 {
     let (_, at) = span_at(p, at)?;
@@ -74,7 +74,7 @@ fn gate_end(p: &[u8], at: usize, names: u64) -> Result<usize, Fault>
     gate_lists_end(p, at, names)
 }
 
-fn u_end(p: &[u8], at: usize, names: u64) -> Result<usize, Fault>
+pub fn u_end(p: &[u8], at: usize, names: u64) -> Result<usize, Fault>
     ensures { result ≡ end (u_field names p.now at) }
 {
     let (_, at) = span_at(p, at)?;
@@ -85,31 +85,38 @@ fn u_end(p: &[u8], at: usize, names: u64) -> Result<usize, Fault>
 }
 
 // CX and MEASURE are read alike.
-fn pair_end(p: &[u8], at: usize, names: u64) -> Result<usize, Fault>
+pub fn pair_end(p: &[u8], at: usize, names: u64) -> Result<usize, Fault>
     ensures { result ≡ end (pair_field names cx p.now at) }
 {
     let (_, at) = span_at(p, at)?;
-    let at = operand_end(p, at, names)?;
-    operand_end(p, at, names)
+    let at = operand_end(p, at, names)?; // copy, or from
+    operand_end(p, at, names) // xor, or to
 }
 
-fn reset_end(p: &[u8], at: usize, names: u64) -> Result<usize, Fault>
+pub fn reset_end(p: &[u8], at: usize, names: u64) -> Result<usize, Fault>
     ensures { result ≡ end (reset_field names p.now at) }
 {
     let (_, at) = span_at(p, at)?;
-    operand_end(p, at, names)
+    operand_end(p, at, names) // what is reset
 }
 
-fn barrier_end(p: &[u8], at: usize, names: u64) -> Result<usize, Fault>
-    ensures { result ≡ end (barrier_field names p.now at) }
+// A count, and as many operands.
+pub fn counted_end(p: &[u8], at: usize, names: u64) -> Result<usize, Fault>
+    ensures { result ≡ end (bind (count p.now at) (λ k. times k (operand names) p.now)) }
 {
-    let (_, at) = span_at(p, at)?;
     let (operands, at) = count_at(p, at)?;
     operands_end(p, at, names, operands)
 }
 
+pub fn barrier_end(p: &[u8], at: usize, names: u64) -> Result<usize, Fault>
+    ensures { result ≡ end (barrier_field names p.now at) }
+{
+    let (_, at) = span_at(p, at)?;
+    counted_end(p, at, names)
+}
+
 // The two counts of a call, of parameters and of operands; then the operands, and the parameters' expressions.
-fn call_lists_end(p: &[u8], at: usize, names: u64) -> Result<usize, Fault>
+pub fn call_lists_end(p: &[u8], at: usize, names: u64) -> Result<usize, Fault>
     ensures { result ≡ end (call_lists names p.now at) }
 {
     let (params, at) = count_at(p, at)?;
@@ -118,7 +125,7 @@ fn call_lists_end(p: &[u8], at: usize, names: u64) -> Result<usize, Fault>
     angles_end(p, at, names, params)
 }
 
-fn call_end(p: &[u8], at: usize, names: u64) -> Result<usize, Fault>
+pub fn call_end(p: &[u8], at: usize, names: u64) -> Result<usize, Fault>
     ensures { result ≡ end (call_field names p.now at) }
 {
     let (_, at) = span_at(p, at)?;
@@ -127,7 +134,7 @@ fn call_end(p: &[u8], at: usize, names: u64) -> Result<usize, Fault>
     call_lists_end(p, at, names)
 }
 
-fn if_end(p: &[u8], at: usize, names: u64) -> Result<usize, Fault>
+pub fn if_end(p: &[u8], at: usize, names: u64) -> Result<usize, Fault>
     ensures { result ≡ end (if_field names p.now at) }
 {
     let (_, at) = span_at(p, at)?;
@@ -334,7 +341,8 @@ impl<'a> Met<'a> {
     // One more NAME, at a place.
     fn note(&mut self, at: usize, k: u64)
         requires { k ≡ key_of (load_at self.old.img.now at) }
-        ensures { (self.new.img ≡ self.old.img) × (self.new.names ≡ noted_of self.old.names 1 at) }
+        ensures same { self.new.img ≡ self.old.img }
+        ensures noted { Notes at k self.old.names self.old.keys self.old.marks self.new.names self.new.keys self.new.marks }
     {
         let n = self.names.count;
         if n < 512 {

@@ -25,8 +25,8 @@ loop-at-smaller-then-tag-eq1 c =
 pub loop-at-preserved-then-tag-eq1 : goal.loop-at-preserved-then-tag-eq1
 loop-at-preserved-then-tag-eq1 c = (
   ready_turn _ _ _ _ c.loop-at.invariant.0 c.loop-at-test.true _ (rw (← c.loop-at.invariant.1) c.field_end.ensures) _ c.in-Ok.is
-      _ _ _ _ c.byte_at-tag.ensures.0 c.load.ensures c.next_counts-c.ensures (noted_as _ _ _ _ c.if-tag-eq1.true c.note.ensures.1),
-  ap (λ i. i.now) c.note.ensures.0 ∙ c.loop-at.invariant.1,
+      _ _ _ _ c.byte_at-tag.ensures.0 c.load.ensures c.next_counts-c.ensures (noted_as _ _ _ _ c.if-tag-eq1.true c.note.ensures.noted.place),
+  ap (λ i. i.now) c.note.ensures.same ∙ c.loop-at.invariant.1,
 )
 
 pub loop-at-smaller : goal.loop-at-smaller
