@@ -1,7 +1,7 @@
 // The service order: the gates of a program without errors, callees first, one byte each.
 #![tactic(auto)]
 
-ghost use Rattle.std.specs.Prelude.{◌≡◌, map};
+ghost use Rattle.std.specs.Prelude.{◌≡◌, map, take};
 ghost use Rattle.rules.specs.Answers.{order_read, order as ordered};
 ghost use Rattle.output.specs.Writers.{Writes};
 ghost use Rattle.checks.specs.Served.{Gives, order_refusal};
@@ -12,6 +12,13 @@ use checks::{Service, tell_errors};
 use graph::Gates;
 use output::Writer;
 use rules::Answer;
+
+// The first n of a list, and all of it where n is larger.
+pub fn front<'a>(list: &'a [u64], n: usize) -> &'a [u64]
+    ensures { result.now ≡ take n list.now }
+{
+    list.get(..n).unwrap_or(list)
+}
 
 // The gates of a list, one byte each.
 fn put_gates(w: &mut Writer, list: &[u64])
@@ -53,7 +60,7 @@ impl Service for Orderer {
         if 0 < ready.errors {
             return Answer::Rejected;
         }
-        let row = ready.order.as_slice();
+        let row = front(&ready.order.gates, ready.order.count);
         let n = row.len();
         if out.len() < n {
             return Answer::Room { items: n, bytes: n };

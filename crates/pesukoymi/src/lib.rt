@@ -1,15 +1,14 @@
 // The boundary: what a host calls. An answer goes as 24 bytes into a slice of the caller's: 01's table number, then the two values.
-#![tactic(auto, unfolding(rules::specs::Answers::check, rules::specs::Answers::order, rules::specs::Answers::expand))]
+#![tactic(auto)]
 
 ghost use Rattle.std.specs.Prelude.{◌≡◌};
-ghost use Rattle.rules.specs.Grouping.{read};
 ghost use Rattle.rules.specs.Answers.{values, answer_bytes, check as checked, order as ordered, expand as expanded};
 ghost use Rattle.output.specs.Writers.{Writes};
 ghost use Rattle.pesukoymi.specs.Boundary.{Called};
 
-use checks::{Checker, Service};
-use expands::Expander;
-use orders::Orderer;
+use checks::check;
+use expands::expand;
+use orders::order;
 use output::Writer;
 use rules::Answer;
 
@@ -35,29 +34,30 @@ fn put_answer(w: &mut Writer, a: Answer)
     w.put8(second);
 }
 
-// A service, for a host. An answer slice of fewer than 24 bytes: nothing is changed at all.
-fn call<S: Service>(image: &[u8], out: &mut [u8], answer: &mut [u8])
-    ensures { Called (S.answers (read image.now) out.old) out.old answer.old out.new answer.new }
-{
-    if 24 <= answer.len() {
-        put_answer(&mut Writer::on(answer), S::serve(image, out));
-    }
-}
-
+// Check, for a host. (The three go through the functions that README names, each with its own promise. An answer slice of fewer than 24 bytes: nothing is
+// changed at all.)
 pub fn pesukoymi_check(image: &[u8], out: &mut [u8], answer: &mut [u8])
     ensures { Called (checked image.now out.old) out.old answer.old out.new answer.new }
 {
-    call::<Checker>(image, out, answer);
+    if 24 <= answer.len() {
+        put_answer(&mut Writer::on(answer), check(image, out));
+    }
 }
 
+// Order, for a host.
 pub fn pesukoymi_order(image: &[u8], out: &mut [u8], answer: &mut [u8])
     ensures { Called (ordered image.now out.old) out.old answer.old out.new answer.new }
 {
-    call::<Orderer>(image, out, answer);
+    if 24 <= answer.len() {
+        put_answer(&mut Writer::on(answer), order(image, out));
+    }
 }
 
+// Expand, for a host.
 pub fn pesukoymi_expand(image: &[u8], out: &mut [u8], answer: &mut [u8])
     ensures { Called (expanded image.now out.old) out.old answer.old out.new answer.new }
 {
-    call::<Expander>(image, out, answer);
+    if 24 <= answer.len() {
+        put_answer(&mut Writer::on(answer), expand(image, out));
+    }
 }
